@@ -1,0 +1,69 @@
+ghost use Rattle.std.specs.Prelude.{◌≡◌, ◌↔◌, IsTrue};
+
+use std::marker::Model;
+
+/// A protection region: the base and the limit register of PMSAv8-64, with this project's layout of bits.
+///
+/// The base register has BASE in bits 47 to 6, SH in 5 and 4, AP in 3 and 2 and XN in bit 1. The limit
+/// register has LIMIT in bits 47 to 6, NS in bit 4, the attribute index in 3 to 1 and EN in bit 0. The
+/// region covers the bytes from BASE times 64 to LIMIT times 64 + 63, both ends included.
+#[derive(Clone, Copy, Debug, PartialEq, Eq)]
+pub struct Region {
+    pub base: u64,
+    pub limit: u64,
+}
+
+impl Region {
+    ghost use Rattle.bao_types.specs.Region.{IsCovered, IsEnabled, access_permission, IsExecuteNever};
+
+    /// Whether the byte at `at` lies between the region's base and the last byte of its limit granule.
+    /// The region need not be enabled.
+    pub fn covers(&self, at: u64) -> bool
+        ensures { IsTrue result ↔ IsCovered self.now at }
+    {
+        let granule = at / 64;
+        self.base / 64 % (1 << 42) <= granule && granule <= self.limit / 64 % (1 << 42)
+    }
+
+    /// EN: whether the region counts at all.
+    pub fn is_enabled(&self) -> bool
+        ensures { IsTrue result ↔ IsEnabled self.now }
+    {
+        self.limit % 2 == 1
+    }
+
+    /// AP: 0 to 3, who may read and write.
+    pub fn access_permission(&self) -> u8
+        ensures { result ≡ access_permission self.now }
+    {
+        (self.base / 4 % 4) as u8
+    }
+
+    /// XN: whether the bytes may not be executed.
+    pub fn is_execute_never(&self) -> bool
+        ensures { IsTrue result ↔ IsExecuteNever self.now }
+    {
+        self.base / 2 % 2 == 1
+    }
+}
+
+/// The EL1 protection regions of a core, and the register that selects one of them (PRSELR_EL1).
+#[derive(Clone, Copy, Debug, PartialEq, Eq)]
+pub struct RegionFile {
+    /// The selected region, below 16.
+    pub select: u8,
+    pub regions: [Region; 16],
+}
+
+impl Model for RegionFile {
+    ghost use Rattle.std.specs.Prelude.{◌<◌};
+    ghost use Rattle.bao_types.specs.RegionFile.{RegionFileData};
+
+    ghost Value = { RegionFileData };
+
+    ghost view = { λ r. record { select = r.select; regions = r.regions } };
+
+    ghost invariant = { λ r. r.select < 16 };
+
+    ghost inverse = { λ d. record { select = d.select; regions = d.regions } };
+}

@@ -1,0 +1,38 @@
+use crate::ByteRange;
+use arrayvec::ArrayVec;
+
+/// One physical core of the board.
+#[derive(Clone, Copy, Debug, PartialEq, Eq)]
+pub struct CorePlace {
+    /// How many EL2 protection regions the core has, 1 to 32.
+    pub entries: u8,
+    /// The number that the core's guest sees as its own: the virtual core number, 0 for a core of no VM.
+    pub affinity: u8,
+}
+
+/// One device port of the board, 64 bytes from `base` on.
+#[derive(Clone, Copy, Debug, PartialEq, Eq)]
+pub struct PortSpot {
+    /// 0 to 15: the place in the standard list of ports.
+    pub id: u8,
+    /// The address of the port's first byte, a multiple of 64.
+    pub base: u64,
+    /// The interrupt number of the port's line, 32 to 95.
+    pub spi: u16,
+    /// The cores of the VM that owns the port, one bit each; 0 for a port of no VM.
+    pub cores: u8,
+}
+
+/// What a board is to be fitted with.
+#[derive(Debug, PartialEq, Eq, Drop)]
+pub struct Shape {
+    /// The memory banks.
+    pub banks: ArrayVec<ByteRange, 8>,
+    /// The cores, by their number.
+    pub cores: ArrayVec<CorePlace, 8>,
+    pub ports: ArrayVec<PortSpot, 16>,
+    /// The ranges that hold memory in use: the VMs' regions, then the shared windows.
+    pub used: ArrayVec<ByteRange, 136>,
+    /// How many events the board is to take, at most 1,000,000.
+    pub events: u32,
+}
