@@ -3,6 +3,7 @@ pub mod ByteRange
 pub mod Bytes
 pub mod Region
 pub mod RegionFile
+pub mod RegionMatch
 pub mod ListReg
 pub mod IfaceRegs
 pub mod Shape

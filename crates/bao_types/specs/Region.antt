@@ -1,5 +1,5 @@
 -- The bits of the base and the limit register of a protection region (PMSAv8-64, with this project's layout).
-use Rattle.std.specs.Prelude.{◌≡◌, ℕ, ◌+◌, ◌*◌, ◌≤◌}
+use Rattle.std.specs.Prelude.{◌≡◌, ◌==◌, ℕ, ◌+◌, ◌*◌, ◌≤◌, nat_le, Bool, ◌&&◌, List, filter, bit_and}
 use Rattle.bao_types.specs.declared.region.Region.{Region}
 use Rattle.bao_types.specs.Bits.{field}
 
@@ -26,3 +26,47 @@ access_permission region = field region.base 3 2
 -- XN
 abbrev pub IsExecuteNever : Region → Type 0
 IsExecuteNever region = field region.base 1 1 ≡ 1
+
+-- SH
+abbrev pub shareability : Region → ℕ
+shareability region = field region.base 5 4
+
+-- NS
+abbrev pub IsNonSecure : Region → Type 0
+IsNonSecure region = field region.limit 4 4 ≡ 1
+
+-- the attribute index
+abbrev pub attribute_index : Region → ℕ
+attribute_index region = field region.limit 3 1
+
+-- what a write of the base register keeps: BASE, SH, AP and XN
+abbrev pub kept_base : ℕ → ℕ
+kept_base value = bit_and value 0x0000FFFFFFFFFFFE
+
+-- what a write of the limit register keeps: LIMIT, NS, the attribute index and EN
+abbrev pub kept_limit : ℕ → ℕ
+kept_limit value = bit_and value 0x0000FFFFFFFFFFDF
+
+-- no bit stands outside the fields
+abbrev pub IsWithinMasks : Region → Type 0
+IsWithinMasks region = (kept_base region.base ≡ region.base) × (kept_limit region.limit ≡ region.limit)
+
+-- EN, as a test
+abbrev pub is_enabled : Region → Bool
+is_enabled region = field region.limit 0 0 == 1
+
+-- XN, as a test
+abbrev pub is_execute_never : Region → Bool
+is_execute_never region = field region.base 1 1 == 1
+
+-- the byte lies in the region, as a test
+abbrev pub covers : Region → ℕ → Bool
+covers region at = nat_le (first_byte region) at && nat_le at (last_byte region)
+
+-- the region counts for the byte: it is enabled and the byte lies in it
+abbrev pub is_match : Region → ℕ → Bool
+is_match region at = is_enabled region && covers region at
+
+-- the enabled regions that contain the byte, in the order of the list
+abbrev pub matching_regions : List Region → ℕ → List Region
+matching_regions regions at = filter (λ region. is_match region at) regions

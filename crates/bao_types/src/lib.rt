@@ -10,7 +10,8 @@ pub use interface::{IfaceRegs, ListReg, TimerRegs};
 pub use label::Label;
 pub use memory::OutOfMemory;
 pub use range::ByteRange;
-pub use region::{Region, RegionFile};
+pub use region::{BASE_MASK, LIMIT_MASK, Region, RegionFile};
+pub use region_match::RegionMatch;
 pub use shape::{CorePlace, PortSpot, Shape};
 pub use sys_id::SysId;
 
@@ -20,6 +21,7 @@ mod label;
 mod memory;
 mod range;
 mod region;
+mod region_match;
 mod shape;
 mod sys_id;
 #[cfg(test)]

@@ -2,6 +2,12 @@ ghost use Rattle.std.specs.Prelude.{◌≡◌, ◌↔◌, IsTrue};
 
 use std::marker::Model;
 
+/// The bits that a write of a base register keeps: BASE, SH, AP and XN.
+pub const BASE_MASK: u64 = 0x0000_ffff_ffff_fffe;
+
+/// The bits that a write of a limit register keeps: LIMIT, NS, the attribute index and EN.
+pub const LIMIT_MASK: u64 = 0x0000_ffff_ffff_ffdf;
+
 /// A protection region: the base and the limit register of PMSAv8-64, with this project's layout of bits.
 ///
 /// The base register has BASE in bits 47 to 6, SH in 5 and 4, AP in 3 and 2 and XN in bit 1. The limit
@@ -14,7 +20,7 @@ pub struct Region {
 }
 
 impl Region {
-    ghost use Rattle.bao_types.specs.Region.{IsCovered, IsEnabled, access_permission, IsExecuteNever};
+    ghost use Rattle.bao_types.specs.Region.{IsCovered, IsEnabled, access_permission, IsExecuteNever, is_match};
 
     /// Whether the byte at `at` lies between the region's base and the last byte of its limit granule.
     /// The region need not be enabled.
@@ -30,6 +36,13 @@ impl Region {
         ensures { IsTrue result ↔ IsEnabled self.now }
     {
         self.limit % 2 == 1
+    }
+
+    /// Whether the region is enabled and the byte at `at` lies in it.
+    pub fn is_match(&self, at: u64) -> bool
+        ensures { result ≡ is_match self.now at }
+    {
+        self.is_enabled() && self.covers(at)
     }
 
     /// AP: 0 to 3, who may read and write.

@@ -1,4 +1,4 @@
-use crate::{ByteRange, Label, OutOfMemory, Region};
+use crate::{BASE_MASK, ByteRange, LIMIT_MASK, Label, OutOfMemory, Region, RegionMatch};
 use std::test::Fail;
 
 /// Base and limit register as the hypervisor's entry has them: the first 64 KiB, for EL2 alone.
@@ -42,6 +42,30 @@ fn region_bits(rt: HostRuntime) {
     assert_eq!(rt; HYPERVISOR.access_permission(), 0);
     assert!(rt; HYPERVISOR.is_execute_never());
     assert!(rt; !MEMORY.is_execute_never());
+}
+
+#[test]
+fn matching_regions(rt: HostRuntime) {
+    const OFF: Region = Region {
+        base: 0x100004,
+        limit: 0x10ffc0,
+    };
+    #[rattlefmt::skip]
+    const ROWS: [(&str, [Region; 3], u64, RegionMatch); 5] = [
+        // shows                       regions                     byte      match
+        ("one region",                 [HYPERVISOR, MEMORY, OFF],  0x100000, RegionMatch::Hit(MEMORY)),
+        ("a gap",                      [HYPERVISOR, MEMORY, OFF],  0x10000,  RegionMatch::Miss),
+        ("one that is off",            [HYPERVISOR, OFF, OFF],     0x100000, RegionMatch::Miss),
+        ("two, equal in all bits",     [MEMORY, OFF, MEMORY],      0x100000, RegionMatch::Overlap),
+        ("three",                      [MEMORY, MEMORY, MEMORY],   0x10ffff, RegionMatch::Overlap),
+    ];
+    for (shows, regions, at, expected) in ROWS {
+        assert!(rt; RegionMatch::of(&regions, at) == expected, "{shows}");
+    }
+    assert!(rt; MEMORY.is_match(0x10ffff) && !OFF.is_match(0x10ffff));
+    // BASE and LIMIT are the 42 bits from bit 6 on, below them 5 of the 6 bits are kept.
+    assert_eq!(rt; BASE_MASK, ((1 << 42) - 1) * 64 + 0x3e);
+    assert_eq!(rt; LIMIT_MASK, ((1 << 42) - 1) * 64 + 0x1f);
 }
 
 #[test]
