@@ -1,0 +1,3 @@
+pub mod LeastLemmas
+pub mod LinesLemmas
+pub mod MapInPlace

@@ -1,0 +1,3 @@
+pub mod PortLine
+pub mod Lines
+pub mod Least
