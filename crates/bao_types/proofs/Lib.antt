@@ -1,1 +1,4 @@
 pub mod Matches
+mod Powers
+mod Repeated
+mod Sums

@@ -1,4 +1,5 @@
 pub mod Bits
+pub mod Bitmask
 pub mod ByteRange
 pub mod Bytes
 pub mod Region
@@ -7,3 +8,4 @@ pub mod RegionMatch
 pub mod ListReg
 pub mod IfaceRegs
 pub mod Shape
+pub mod Sum

@@ -13,7 +13,7 @@ pub const LIMIT_MASK: u64 = 0x0000_ffff_ffff_ffdf;
 /// The base register has BASE in bits 47 to 6, SH in 5 and 4, AP in 3 and 2 and XN in bit 1. The limit
 /// register has LIMIT in bits 47 to 6, NS in bit 4, the attribute index in 3 to 1 and EN in bit 0. The
 /// region covers the bytes from BASE times 64 to LIMIT times 64 + 63, both ends included.
-#[derive(Clone, Copy, Debug, PartialEq, Eq)]
+#[derive(Clone, Copy, Debug, Default, PartialEq, Eq)]
 pub struct Region {
     pub base: u64,
     pub limit: u64,

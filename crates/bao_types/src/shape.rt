@@ -2,7 +2,7 @@ use crate::ByteRange;
 use arrayvec::ArrayVec;
 
 /// One physical core of the board.
-#[derive(Clone, Copy, Debug, PartialEq, Eq)]
+#[derive(Clone, Copy, Debug, Default, PartialEq, Eq)]
 pub struct CorePlace {
     /// How many EL2 protection regions the core has, 1 to 32.
     pub entries: u8,
@@ -11,7 +11,7 @@ pub struct CorePlace {
 }
 
 /// One device port of the board, 64 bytes from `base` on.
-#[derive(Clone, Copy, Debug, PartialEq, Eq)]
+#[derive(Clone, Copy, Debug, Default, PartialEq, Eq)]
 pub struct PortSpot {
     /// 0 to 15: the place in the standard list of ports.
     pub id: u8,
@@ -24,7 +24,7 @@ pub struct PortSpot {
 }
 
 /// What a board is to be fitted with.
-#[derive(Debug, PartialEq, Eq, Drop)]
+#[derive(Clone, Debug, Default, PartialEq, Eq, Drop)]
 pub struct Shape {
     /// The memory banks.
     pub banks: ArrayVec<ByteRange, 8>,

@@ -1,4 +1,7 @@
-use crate::{BASE_MASK, ByteRange, LIMIT_MASK, Label, OutOfMemory, Region, RegionMatch};
+use crate::{
+    BASE_MASK, ByteRange, LIMIT_MASK, Label, OutOfMemory, Region, RegionMatch, Sum, add_carry,
+    bitmask, field,
+};
 use std::test::Fail;
 
 /// Base and limit register as the hypervisor's entry has them: the first 64 KiB, for EL2 alone.
@@ -87,4 +90,87 @@ fn ranges_and_labels(rt: HostRuntime) -> Result<(), Fail> {
         "out of memory"
     );
     Ok(())
+}
+
+#[test]
+fn fields(rt: HostRuntime) {
+    #[rattlefmt::skip]
+    const ROWS: [(&str, u32, u32, u32); 5] = [
+        // shows           high low value in 0xDEAD_BEEF
+        ("the whole word", 31,  0,  0xDEAD_BEEF),
+        ("the top nibble", 31,  28, 0xD),
+        ("the low byte",   7,   0,  0xEF),
+        ("the middle",     19,  12, 0xDB),
+        ("one bit",        4,   4,  0),
+    ];
+    for (shows, high, low, value) in ROWS {
+        assert!(rt; low <= high && high <= 31);
+        assert_eq!(rt; field(0xDEAD_BEEF, high, low), value, "{shows}");
+    }
+}
+
+#[test]
+fn sums(rt: HostRuntime) {
+    const TOP: u64 = 0x8000_0000_0000_0000;
+    const ALL: u64 = 0xFFFF_FFFF_FFFF_FFFF;
+    #[rattlefmt::skip]
+    const ROWS: [(&str, u64, u64, bool, bool, u64, (bool, bool, bool, bool)); 10] = [
+        // shows                        x            y            carry  wide   value        n      z      c      v
+        ("a plain sum",                 2,           3,           false, true,  5,           (false, false, false, false)),
+        ("the carry in",                2,           3,           true,  true,  6,           (false, false, false, false)),
+        ("a carry out",                 ALL,         1,           false, true,  0,           (false, true,  true,  false)),
+        ("an overflow",                 TOP - 1,     1,           false, true,  TOP,         (true,  false, false, true)),
+        ("two least numbers",           TOP,         TOP,         false, true,  0,           (false, true,  true,  true)),
+        ("5 - 5",                       5,           ALL - 5,     true,  true,  0,           (false, true,  true,  false)),
+        ("5 - 6",                       5,           ALL - 6,     true,  true,  ALL,         (true,  false, false, false)),
+        ("a carry out of 32 bits",      0xFFFF_FFFF, 1,           false, false, 0,           (false, true,  true,  false)),
+        ("an overflow of 32 bits",      0x7FFF_FFFF, 0,           true,  false, 0x8000_0000, (true,  false, false, true)),
+        ("upper halves don't count",    ALL,         TOP + 1,     false, false, 0,           (false, true,  true,  false)),
+    ];
+    for (shows, x, y, carry, wide, value, (n, z, c, v)) in ROWS {
+        assert!(rt;
+            add_carry(x, y, carry, wide) == Sum { value, n, z, c, v },
+            "{shows}"
+        );
+    }
+}
+
+/// The mask by the encoding's own table of sizes, bit by bit.
+fn plain_mask(n: u32, immr: u32, imms: u32, wide: bool) -> Option<u64> {
+    let (size, last) = match (n, imms) {
+        (1, last) => (64, last),
+        (_, last @ 0..=31) => (32, last),
+        (_, 32..=47) => (16, imms % 16),
+        (_, 48..=55) => (8, imms % 8),
+        (_, 56..=59) => (4, imms % 4),
+        (_, 60..=61) => (2, imms % 2),
+        _ => return None,
+    };
+    if last == size - 1 || size == 64 && !wide {
+        return None;
+    }
+    let mut mask = 0;
+    for place in 0..64 {
+        if (wide || place < 32) && (place + immr % 64) % size <= last {
+            mask |= 1u64 << place;
+        }
+    }
+    Some(mask)
+}
+
+#[test]
+fn all_bitmasks(rt: HostRuntime) {
+    for n in 0..2 {
+        for immr in 0..64 {
+            for imms in 0..64 {
+                assert!(rt; bitmask(n, immr, imms, true) == plain_mask(n, immr, imms, true));
+                assert!(rt; bitmask(n, immr, imms, false) == plain_mask(n, immr, imms, false));
+            }
+        }
+    }
+    // `and x4, x1, #0xfffffffffffffff0`, and `orr` of a word with #0x80000001.
+    assert_eq!(rt; bitmask(1, 60, 59, true), Some(0xFFFF_FFFF_FFFF_FFF0));
+    assert_eq!(rt; bitmask(0, 1, 1, false), Some(0x8000_0001));
+    assert_eq!(rt; bitmask(1, 0, 63, true), None);
+    assert_eq!(rt; bitmask(1, 0, 0, false), None);
 }

@@ -1,0 +1,4 @@
+pub mod Pattern
+pub mod Operands
+pub mod Table
+pub mod Lawful

@@ -1,0 +1,4 @@
+pub mod Pstate
+pub mod Core
+pub mod CoreView
+pub mod Registers

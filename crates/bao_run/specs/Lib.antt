@@ -1,0 +1,11 @@
+pub mod Words
+pub mod Command
+pub mod Schedule
+pub mod MatchSchedule
+pub mod Ruling
+pub mod Fresh
+pub mod Input
+pub mod Outcome
+pub mod Play
+pub mod Answers
+pub mod SureAnswers

@@ -1,0 +1,37 @@
+-- What bytes spell a schedule: lines `s 0 D`, each ended by LF, with digits that don't fall.
+use Rattle.std.specs.Prelude.{◌≡◌, ℕ, ◌-◌, ◌==◌, ◌&&◌, nat_le, Bool, if◌then◌else◌, List, [], ◌∷◌, length, Option, None, Some}
+use Rattle.board.specs.Flat.{FlatEvent, Step}
+use Rattle.bao_run.specs.declared.schedule.Event.{Event}
+use Rattle.bao_run.specs.declared.schedule.Event.TheVariants as event
+
+-- the event of the flat machine
+abbrev pub flat_event : Event → FlatEvent
+flat_event (event.Step core count) = Step core count
+
+-- a step of core 0
+abbrev pub IsOfCoreZero : Event → Type 0
+IsOfCoreZero (event.Step core count) = core ≡ 0
+
+-- the six bytes of a line, whose digit is not below the one before
+abbrev pub is_line : ℕ → ℕ → ℕ → ℕ → ℕ → ℕ → ℕ → Bool
+is_line low a b c d digit f =
+    (a == 115) && ((b == 32) && ((c == 48) && ((d == 32) && ((nat_le low digit) && ((nat_le digit 57) && (f == 10))))))
+
+abbrev pub with_event : FlatEvent → Option (List FlatEvent) → Option (List FlatEvent)
+with_event first None = None
+with_event first (Some rest) = Some (first ∷ rest)
+
+-- the events of the lines, whose first digit is not below this one
+unfoldable pub events_of : ℕ → List ℕ → Option (List FlatEvent)
+events_of low [] = Some []
+events_of low (a ∷ []) = None
+events_of low (a ∷ b ∷ []) = None
+events_of low (a ∷ b ∷ c ∷ []) = None
+events_of low (a ∷ b ∷ c ∷ d ∷ []) = None
+events_of low (a ∷ b ∷ c ∷ d ∷ e ∷ []) = None
+events_of low (a ∷ b ∷ c ∷ d ∷ digit ∷ f ∷ rest) =
+    if is_line low a b c d digit f then with_event (Step 0 (digit - 48)) (events_of digit rest) else None
+
+-- the events that the bytes spell, if they are a schedule: at most a million lines, of six bytes each
+unfoldable pub schedule_of : List ℕ → Option (List FlatEvent)
+schedule_of bytes = if nat_le (length bytes) 6000000 then events_of 48 bytes else None

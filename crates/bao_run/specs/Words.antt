@@ -1,0 +1,56 @@
+-- The words of the command line.
+use Rattle.std.specs.Prelude.{ℕ, ◌+◌, ◌-◌, ◌*◌, ◌^◌, ◌==◌, ◌&&◌, nat_lt, not, Bool, true, false, if◌then◌else◌, List, [], ◌∷◌, codes, fold}
+use Rattle.std.specs.Cmp.Lexicographic.{pointwise}
+use Rattle.std.specs.List.{list_all}
+use Rattle.std.specs.Char.{is_ascii_digit}
+
+-- the words name a configuration and a schedule to run, or a command that isn't built, or nothing
+pub data Command : Type 0 where
+  Run : (config schedule : List ℕ) → Command
+  Unbuilt : Command
+  Unknown : Command
+
+-- two texts are the same
+abbrev pub same : List ℕ → List ℕ → Bool
+same = pointwise ◌==◌
+
+-- the number that decimal digits are
+abbrev pub value_of : List ℕ → ℕ
+value_of digits = fold (λ value digit. value * 10 + (digit - 48)) 0 digits
+
+-- more digits than one don't begin with 0
+abbrev pub has_no_leading_zero : List ℕ → Bool
+has_no_leading_zero [] = false
+has_no_leading_zero (digit ∷ []) = true
+has_no_leading_zero (first ∷ second ∷ digits) = not (first == 48)
+
+-- a decimal number from 0 to 2^32 - 1, without leading zeros
+abbrev pub is_number : List ℕ → Bool
+is_number text = has_no_leading_zero text && (list_all is_ascii_digit text && nat_lt (value_of text) (2 ^ 32))
+
+-- behind `run` stand a configuration and a schedule
+abbrev pub run_of : List (List ℕ) → Command
+run_of [] = Unknown
+run_of (config ∷ []) = Unknown
+run_of (config ∷ schedule ∷ []) = Run config schedule
+run_of (config ∷ schedule ∷ other ∷ rest) = Unknown
+
+-- behind `check` stands a configuration
+abbrev pub check_of : List (List ℕ) → Command
+check_of [] = Unknown
+check_of (config ∷ []) = Unbuilt
+check_of (config ∷ other ∷ rest) = Unknown
+
+-- behind `gen` stands a number
+abbrev pub gen_of : List (List ℕ) → Command
+gen_of [] = Unknown
+gen_of (number ∷ []) = if is_number number then Unbuilt else Unknown
+gen_of (number ∷ other ∷ rest) = Unknown
+
+abbrev pub command_of : List (List ℕ) → Command
+command_of [] = Unknown
+command_of (verb ∷ rest) =
+    if same verb (codes "run") then run_of rest
+    else if same verb (codes "check") then check_of rest
+    else if same verb (codes "gen") then gen_of rest
+    else Unknown

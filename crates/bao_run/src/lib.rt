@@ -1,0 +1,16 @@
+//! The top call of the program: it reads the words and the files, boots the machine, runs the schedule and writes the
+//! report.
+#![tactic(auto)]
+
+mod config;
+mod input;
+mod machine;
+mod reading;
+mod run;
+mod schedule;
+mod sure;
+mod top;
+mod words;
+
+pub use sure::complete_over_a_sure_shelf;
+pub use top::run_bao;

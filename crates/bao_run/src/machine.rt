@@ -1,0 +1,115 @@
+ghost use Rattle.std.specs.Prelude.{◌≡◌, ◌≤◌, ◌<◌, ◌+◌, ◌∷◌, [], All, OnOk, OnErr, IfErr, Some, None, length, map, replicate, true, false};
+ghost use Rattle.bao_types.specs.Shape.{shape_data};
+ghost use Rattle.board.specs.Sample.{sample, sample_shape, sample_packing, zero_entry};
+ghost use Rattle.board.specs.Flat.{project, On, Step, flat_step, flat_run, is_event_unbuilt, is_entered, first_unbuilt, entered_count};
+ghost use Rattle.bao_run.specs.Schedule.{flat_event, IsOfCoreZero};
+ghost use Rattle.bao_run.specs.Fresh.{fresh_machine, booted_machine, IsReady};
+
+use crate::schedule::Event;
+use arrayvec::ArrayVec;
+use bao_types::{ByteRange, CorePlace, PortSpot, Region, Shape};
+use board::{Board, Exit};
+
+/// The hypervisor's memory, for EL2 alone.
+const HYPERVISOR: Region = Region {
+    base: 0x2,
+    limit: 0xffc1,
+};
+
+/// The VM's memory, all accesses.
+const MEMORY: Region = Region {
+    base: 0x10_0004,
+    limit: 0x10_ffc1,
+};
+
+/// The console's port, not to be executed.
+const CONSOLE: Region = Region {
+    base: 0x9c09_0006,
+    limit: 0x9c09_0003,
+};
+
+/// The shape of the one configuration that is accepted, for so many events.
+pub fn sample_shape(events: u32) -> Shape
+    ensures { shape_data result ≡ sample_shape events }
+{
+    let mut shape = Shape::default();
+    shape.events = events;
+    shape.banks.push(ByteRange {
+        base: 0,
+        size: 0x20_0000,
+    });
+    shape.cores.push(CorePlace {
+        entries: 16,
+        affinity: 0,
+    });
+    shape.ports.push(PortSpot {
+        id: 0,
+        base: 0x9c09_0000,
+        spi: 32,
+        cores: 1,
+    });
+    shape.used.push(ByteRange {
+        base: 0x10_0000,
+        size: 0x1_0000,
+    });
+    shape
+}
+
+/// Boots the one configuration that is accepted, on a board that was just fitted for it.
+pub fn boot<B: Board>(board: &mut B, image: &[u8])
+    requires fresh { B.state board.old ≡ fresh_machine (B.state board.old).shape.events }
+    requires image { length image.now ≤ 0x8000 }
+    ensures { B.state board.new ≡ booted_machine (B.state board.old).shape.events image.now }
+{
+    board.load(0x10_0000, image);
+    set_entries(board);
+    board.reset_core(0, 0x10_0000, 0);
+}
+
+/// Sets the EL2 entries of core 0, which are all zero.
+fn set_entries<B: Board>(board: &mut B)
+    requires fitted { (B.state board.old).fitted ≡ true }
+    requires at_rest { (B.state board.old).entered ≡ 0 }
+    requires shape { (B.state board.old).shape ≡ sample_shape (B.state board.old).shape.events }
+    requires zero { (B.state board.old).entries ≡ replicate 16 zero_entry ∷ [] }
+    ensures { B.state board.new ≡ record (B.state board.old) { entries = sample_packing ∷ [] } }
+{
+    board.set_entry(0, 0, HYPERVISOR);
+    board.set_entry(0, 1, MEMORY);
+    board.set_entry(0, 2, CONSOLE);
+}
+
+/// Takes one event, and answers whether it does something that isn't built yet.
+pub fn take_event<B: Board>(board: &mut B, event: &Event) -> bool
+    requires ready { IsReady (B.state board.old) }
+    requires own { IsOfCoreZero event.now }
+    requires spent { (B.state board.old).spent < (B.state board.old).shape.events }
+    ensures ready { IsReady (B.state board.new) }
+    ensures state { project (On ∷ []) (B.state board.new) ≡ flat_step sample (project (On ∷ []) (B.state board.old)) (flat_event event.now) }
+    ensures unbuilt { result ≡ is_event_unbuilt sample (project (On ∷ []) (B.state board.old)) (flat_event event.now) }
+    ensures entered { (B.state board.new).entered ≡ (B.state board.old).entered + 1 }
+    ensures spent { (B.state board.new).spent ≡ (B.state board.old).spent + 1 }
+    ensures events { (B.state board.new).shape.events ≡ (B.state board.old).shape.events }
+{
+    match *event {
+        Event::Step { core, count } => take_step(board, core, count),
+    }
+}
+
+#[tactic(auto, using(crate::proofs::Refines::unbuilt_alike_at, crate::proofs::Refines::stepped_alike_at))]
+fn take_step<B: Board>(board: &mut B, core: u8, count: u64) -> bool
+    requires ready { IsReady (B.state board.old) }
+    requires own { core ≡ 0 }
+    requires spent { (B.state board.old).spent < (B.state board.old).shape.events }
+    ensures ready { IsReady (B.state board.new) }
+    ensures state { project (On ∷ []) (B.state board.new) ≡ flat_step sample (project (On ∷ []) (B.state board.old)) (Step core count) }
+    ensures unbuilt { result ≡ is_event_unbuilt sample (project (On ∷ []) (B.state board.old)) (Step core count) }
+    ensures entered { (B.state board.new).entered ≡ (B.state board.old).entered + 1 }
+    ensures spent { (B.state board.new).spent ≡ (B.state board.old).spent + 1 }
+    ensures events { (B.state board.new).shape.events ≡ (B.state board.old).shape.events }
+{
+    match board.step(core, count) {
+        Exit::Ran => false,
+        Exit::Unbuilt => true,
+    }
+}

@@ -1,0 +1,29 @@
+ghost use Rattle.std.specs.Prelude.{◌≡◌, ◌&&◌, nat_le, length, slice_index};
+ghost use Rattle.bao_run.specs.Schedule.{is_line};
+
+/// One entry of a schedule.
+#[derive(Clone, Copy, Debug, PartialEq, Eq)]
+pub enum Event {
+    /// A core takes a step, at this system count.
+    Step { core: u8, count: u64 },
+}
+
+/// How many bytes a line of the schedule has: `s 0 D` and LF.
+pub const LINE: usize = 6;
+
+/// Whether the text begins with a line whose digit is not below `low`.
+pub fn begins_with_line(low: u8, text: &[u8]) -> bool
+    ensures { result ≡ (nat_le 6 (length text.now) && is_line low (slice_index text.now 0) (slice_index text.now 1)
+        (slice_index text.now 2) (slice_index text.now 3) (slice_index text.now 4) (slice_index text.now 5)) }
+{
+    if text.len() < LINE {
+        return false;
+    }
+    text[0] == b's'
+        && text[1] == b' '
+        && text[2] == b'0'
+        && text[3] == b' '
+        && low <= text[4]
+        && text[4] <= b'9'
+        && text[5] == b'\n'
+}

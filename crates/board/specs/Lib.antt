@@ -1,0 +1,11 @@
+pub mod Config
+pub mod Sample
+pub mod Map
+pub mod Stage2
+pub mod Instruction
+pub mod Attempt
+pub mod Machine
+pub mod Flat
+pub mod Lone
+pub mod View
+pub mod Entry

@@ -1,0 +1,110 @@
+-- The state of a board, as the hypervisor sees it, and what each call makes of it.
+use Rattle.std.specs.Prelude.{◌≡◌, ℕ, ◌+◌, ◌-◌, ◌<◌, ◌≤◌, ◌&&◌, ◌⊎◌, nat_le, nat_lt, Bool, true, if◌then◌else◌, IsTrue, List, [], ◌∷◌, All, map, length, replicate, slice_index, slice_index_or, slice_set}
+use Rattle.std.specs.List.{list_any}
+use Rattle.bao_types.specs.declared.range.ByteRange.{ByteRange}
+use Rattle.bao_types.specs.declared.region.Region.{Region}
+use Rattle.bao_types.specs.Region.{IsCovered, IsEnabled, IsExecuteNever, access_permission}
+use Rattle.bao_types.specs.Shape.{ShapeData}
+use Rattle.a64_state.specs.Core.{CoreData}
+use Rattle.a64_state.specs.Registers.{reset_core}
+use Rattle.board.specs.Stage2.{by_entries}
+use Rattle.board.specs.Attempt.{is_unbuilt, core_after}
+use Rattle.board.specs.Map.{is_within}
+
+-- bytes is all memory by address, 0 outside the used ranges; entries are each core's EL2 protection regions; console is what each
+-- port by its id has put out; count is what the last step was handed; entered and spent count the steps and the events since
+-- the board was fitted
+pub record Machine : Type 0 where
+  pub fitted : Bool
+  pub shape : ShapeData
+  pub bytes : ℕ → ℕ
+  pub cores : List CoreData
+  pub entries : List (List Region)
+  pub console : ℕ → List ℕ
+  pub count : ℕ
+  pub entered : ℕ
+  pub spent : ℕ
+
+-- the registers of a core; there is none past the last
+abbrev pub core_at : List CoreData → ℕ → CoreData
+core_at cores core = slice_index_or cores core (reset_core 0)
+
+abbrev pub entries_at : List (List Region) → ℕ → List Region
+entries_at entries core = slice_index_or entries core []
+
+abbrev pub no_region : Region
+no_region = record { base = 0; limit = 0 }
+
+-- the byte is in a range of memory in use
+abbrev pub is_used : ShapeData → ℕ → Bool
+is_used shape at = list_any (λ range. is_within range at) shape.used
+
+-- the byte is one of a port's 64
+abbrev pub is_port : ShapeData → ℕ → Bool
+is_port shape at = list_any (λ port. is_within (record { base = port.base; size = 64 }) at) shape.ports
+
+-- what a board can be fitted with today: one bank of at most 64 MiB, which ends at or below 2^48 and holds the used
+-- ranges, and cores of at most 32 entries
+pub record IsFittable (shape : ShapeData) : Type 0 where
+  pub bank : ByteRange
+  pub one_bank : shape.banks ≡ bank ∷ []
+  pub bank_size : bank.size ≤ 0x4000000
+  pub bank_end : bank.base + bank.size ≤ 0x1000000000000
+  pub used : (at : ℕ) → IsTrue (is_used shape at) → IsTrue (is_within bank at)
+  pub entry_counts : All (λ place. place.entries ≤ 32) shape.cores
+  pub events : shape.events ≤ 1000000
+
+-- freshly fitted: memory and entries are zero, the cores are reset; the ports stay as they were
+abbrev pub fitted_with : ShapeData → Machine → Machine
+fitted_with shape m =
+    record {
+      fitted = true;
+      shape = shape;
+      bytes = λ at. 0;
+      cores = map (λ place. reset_core place.affinity) shape.cores;
+      entries = map (λ place. replicate place.entries no_region) shape.cores;
+      console = m.console;
+      count = 0;
+      entered = 0;
+      spent = 0;
+    }
+
+-- memory with these bytes from an address on
+abbrev pub over : ℕ → List ℕ → (ℕ → ℕ) → ℕ → ℕ
+over from bytes old at =
+    if nat_le from at && nat_lt at (from + length bytes) then slice_index bytes (at - from) else old at
+
+-- each of so many bytes from an address on is in use
+abbrev pub AreUsed : ShapeData → ℕ → ℕ → Type 0
+AreUsed shape from count = (at : ℕ) → from ≤ at → at < from + count → IsTrue (is_used shape at)
+
+-- A guest is given memory in use and ports alone, and no port to execute. AP 0 and 2 are for EL2 alone.
+abbrev pub IsSafeEntry : ShapeData → Region → Type 0
+IsSafeEntry shape entry =
+    IsEnabled entry → (access_permission entry ≡ 1) ⊎ (access_permission entry ≡ 3) → (at : ℕ) → IsCovered entry at
+    → IsTrue (is_used shape at) ⊎ (IsTrue (is_port shape at) × IsExecuteNever entry)
+
+-- the entry is set
+abbrev pub with_entry : Machine → ℕ → ℕ → Region → Machine
+with_entry m core index entry =
+    record m { entries = slice_set m.entries core (slice_set (entries_at m.entries core) index entry) }
+
+-- the core is reset, and begins at pc with arg in X0
+abbrev pub core_started : ShapeData → ℕ → ℕ → ℕ → CoreData
+core_started shape core pc arg =
+    let fresh = reset_core (slice_index_or shape.cores core (record { entries = 0; affinity = 0 })).affinity
+    in record fresh { x = slice_set fresh.x 0 arg; pc = pc }
+
+-- the core's next step is one that isn't built
+abbrev pub step_is_unbuilt : Machine → ℕ → Bool
+step_is_unbuilt m core = is_unbuilt (by_entries (entries_at m.entries core)) m.bytes (core_at m.cores core)
+
+-- after a step of the core that is handed a count
+abbrev pub stepped : Machine → ℕ → ℕ → Machine
+stepped m core now =
+    record m {
+      cores = slice_set m.cores core (core_after (by_entries (entries_at m.entries core)) m.bytes (core_at m.cores core));
+      count = now;
+      entered = m.entered + 1;
+      spent = m.spent + 1;
+    }

@@ -1,0 +1,76 @@
+-- What each byte of the address space is to a VM and to a core, asked byte by byte.
+use Rattle.std.specs.Prelude.{ℕ, ◌+◌, ◌==◌, ◌&&◌, nat_le, nat_lt, Bool, true, false, if◌then◌else◌, List, ◌++◌, map, reverse, Option, None, Some, slice_get}
+use Rattle.std.specs.List.{find, filter_map, list_any}
+use Rattle.std.specs.Option.{option_map}
+use Rattle.bao_types.specs.declared.range.ByteRange.{ByteRange}
+use Rattle.bao_types.specs.declared.access.Class.{Class}
+use Rattle.bao_types.specs.declared.access.Class.TheVariants.{Nothing, Hyp, Guest}
+use Rattle.board.specs.Config.{Config, Vm, MapRegion, Dev, Ipc}
+
+-- what a byte is in the map of a VM: memory of its own, a port by its id, a window on a shared memory, or not there
+pub data Kind : Type 0 where
+  Ram : (write exec : Bool) → Kind
+  Port : (id : ℕ) → Kind
+  Window : (shmem : ℕ) (write : Bool) → Kind
+  Hole : Kind
+
+pub record MapEntry : Type 0 where
+  pub range : ByteRange
+  pub kind : Kind
+
+abbrev pub is_within : ByteRange → ℕ → Bool
+is_within range at = nat_le range.base at && nat_lt at (range.base + range.size)
+
+abbrev pub region_entry : MapRegion → MapEntry
+region_entry region = record { range = region.range; kind = Ram region.write region.exec }
+
+-- the first port of that id; a dev without its port has no bytes
+abbrev pub dev_entry : Config → Dev → Option MapEntry
+dev_entry cfg dev =
+    option_map (λ port. record { range = record { base = port.base; size = 64 }; kind = Port dev.port })
+    (find (λ port. port.id == dev.port) cfg.platform.ports)
+
+-- an ipc without its shared memory has no bytes
+abbrev pub ipc_entry : Config → Ipc → Option MapEntry
+ipc_entry cfg ipc =
+    option_map (λ shmem. record { range = shmem.range; kind = Window ipc.shmem ipc.write }) (slice_get cfg.shmems ipc.shmem)
+
+abbrev pub guard_entry : ByteRange → MapEntry
+guard_entry range = record { range = range; kind = Hole }
+
+-- the map of a VM, in the order in which its entries apply
+abbrev pub map_of : Config → Vm → List MapEntry
+map_of cfg vm =
+    map region_entry vm.regions ++ filter_map (dev_entry cfg) vm.devs ++ filter_map (ipc_entry cfg) vm.ipcs
+    ++ map guard_entry vm.guards
+
+-- the kind that an entry gives, where there is one
+abbrev pub kind_of : Option MapEntry → Kind
+kind_of None = Hole
+kind_of (Some entry) = entry.kind
+
+-- the last entry that contains the byte decides
+abbrev pub kind_at : Config → Vm → ℕ → Kind
+kind_at cfg vm at = kind_of (find (λ entry. is_within entry.range at) (reverse (map_of cfg vm)))
+
+-- what a guest may do with a byte of this kind
+abbrev pub grant : Kind → Class
+grant (Ram write exec) = Guest write exec false
+grant (Port id) = Guest true false true
+grant (Window shmem write) = Guest write false false
+grant Hole = Nothing
+
+-- the VM that has this physical core among its own: the first of them
+abbrev pub has_core : ℕ → Vm → Bool
+has_core core vm = list_any (λ own. own == core) vm.cores
+
+abbrev pub owner : Config → ℕ → Option Vm
+owner cfg core = find (has_core core) cfg.vms
+
+abbrev pub guest_class : Config → Option Vm → ℕ → Class
+guest_class cfg None at = Nothing
+guest_class cfg (Some vm) at = grant (kind_at cfg vm at)
+
+-- what a core may do with a byte: the hypervisor's range is its own for every core
+abbrev pub class_of : Config → ℕ → ℕ → Class
+class_of cfg core at = if is_within cfg.hyp at then Hyp else guest_class cfg (owner cfg core) at

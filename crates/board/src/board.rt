@@ -1,0 +1,105 @@
+ghost use Rattle.std.specs.Prelude.{◌≡◌, ◌<◌, ◌≤◌, ◌+◌, ℕ, List, length, slice_get, slice_index, slice_index_or, slice_set, IsTrue, OnOk, OnErr, true, false, if◌then◌else◌};
+ghost use Rattle.bao_types.specs.Shape.{shape_data};
+
+use crate::CoreView;
+use bao_types::{OutOfMemory, Region, Shape};
+use std::alloc::Global;
+
+/// Why a core stopped after a step.
+#[derive(Clone, Copy, Debug, PartialEq, Eq)]
+pub enum Exit {
+    /// The core has executed one instruction.
+    Ran,
+    /// The core would have done something that the machine hasn't built yet. Its registers are as before.
+    Unbuilt,
+}
+
+/// A machine with memory, cores and ports, whose cores' EL2 entries decide what a guest may touch.
+///
+/// A board is fitted once with its shape. Every call but `fit` and `entered` asks that it is fitted, and a core, entry or
+/// port in a call is one of the shape's.
+pub trait Board {
+    ghost use Rattle.board.specs.Machine.{Machine, IsFittable, fitted_with, over, AreUsed, IsSafeEntry, with_entry, no_region, entries_at, core_started, core_at, stepped, step_is_unbuilt};
+    ghost use Rattle.board.specs.View.{view_of};
+    ghost use Rattle.board.specs.Entry.{HasEntryBits};
+
+    /// What the board is at a moment.
+    ghost state: { Self → Machine };
+
+    /// Fits the board: memory and entries are zero, the cores are reset, and the ports stay as they are. After a refusal
+    /// the board isn't fitted.
+    fn fit(&mut self, alloc: Global, shape: &Shape) -> Result<(), OutOfMemory>
+        requires unfitted { (state self.old).fitted ≡ false }
+        requires fittable { IsFittable (shape_data shape.now) }
+        ensures ok { OnOk result (state self.new ≡ fitted_with (shape_data shape.now) (state self.old)) }
+        ensures err { OnErr result ((state self.new).fitted ≡ false) }
+        ensures ports { OnErr result ((state self.new).console ≡ (state self.old).console) };
+
+    /// Copies the bytes of an image into memory, from the address `at` on.
+    fn load(&mut self, at: u64, bytes: &[u8])
+        requires fitted { (state self.old).fitted ≡ true }
+        requires at_rest { (state self.old).entered ≡ 0 }
+        requires used { AreUsed (state self.old).shape at (length bytes.now) }
+        ensures { state self.new ≡ record (state self.old) { bytes = over at bytes.now (state self.old).bytes } };
+
+    /// Sets an EL2 entry of a core.
+    fn set_entry(&mut self, core: u8, index: u8, entry: Region)
+        requires fitted { (state self.old).fitted ≡ true }
+        requires at_rest { (state self.old).entered ≡ 0 }
+        requires core { core < length (state self.old).shape.cores }
+        requires index { index < length (entries_at (state self.old).entries core) }
+        requires bits { HasEntryBits entry }
+        requires safe { IsSafeEntry (state self.old).shape entry }
+        ensures { state self.new ≡ with_entry (state self.old) core index entry };
+
+    /// An EL2 entry of a core.
+    fn entry(&self, core: u8, index: u8) -> Region
+        requires fitted { (state self.now).fitted ≡ true }
+        requires core { core < length (state self.now).shape.cores }
+        requires index { index < length (entries_at (state self.now).entries core) }
+        ensures { result ≡ slice_index_or (entries_at (state self.now).entries core) index no_region };
+
+    /// Resets a core, and lets it begin at `pc` with `arg` in X0.
+    fn reset_core(&mut self, core: u8, pc: u64, arg: u64)
+        requires fitted { (state self.old).fitted ≡ true }
+        requires core { core < length (state self.old).shape.cores }
+        ensures { state self.new ≡ record (state self.old) {
+          cores = slice_set (state self.old).cores core (core_started (state self.old).shape core pc arg);
+        } };
+
+    /// Lets a core execute one instruction, at the system count `now`.
+    fn step(&mut self, core: u8, now: u64) -> Exit
+        requires fitted { (state self.old).fitted ≡ true }
+        requires core { core < length (state self.old).shape.cores }
+        requires spent { (state self.old).spent < (state self.old).shape.events }
+        ensures state { state self.new ≡ stepped (state self.old) core now }
+        ensures exit { result ≡ (if step_is_unbuilt (state self.old) core then Exit.Unbuilt else Exit.Ran) };
+
+    /// The byte at an address: 0 where no memory is in use.
+    fn byte_at(&self, at: u64) -> u8
+        requires { (state self.now).fitted ≡ true }
+        ensures { result ≡ (state self.now).bytes at };
+
+    /// The registers of a core that a report shows.
+    fn core_view(&self, core: u8) -> CoreView
+        requires fitted { (state self.now).fitted ≡ true }
+        requires core { core < length (state self.now).shape.cores }
+        ensures { result ≡ view_of (core_at (state self.now).cores core) };
+
+    /// How many bytes a port has put out.
+    fn port_len(&self, port: u8) -> u32
+        requires fitted { (state self.now).fitted ≡ true }
+        requires port { port < 16 }
+        ensures { result ≡ length ((state self.now).console port) };
+
+    /// One of the bytes that a port has put out.
+    fn port_byte(&self, port: u8, i: u32) -> u8
+        requires fitted { (state self.now).fitted ≡ true }
+        requires port { port < 16 }
+        requires place { i < length ((state self.now).console port) }
+        ensures { result ≡ slice_index ((state self.now).console port) i };
+
+    /// How many steps have been taken since the board was fitted.
+    fn entered(&self) -> u64
+        ensures { result ≡ (state self.now).entered };
+}

@@ -1,0 +1,14 @@
+//! The machine as the hypervisor sees it: the trait `Board`, and the definitions that its calls and the whole program
+//! are held to, in `specs/`.
+//!
+//! There is a machine, whose EL2 entries decide what a guest may touch (`Machine`), and a model, which asks the
+//! configuration instead (`Flat`). Both share one table of instructions.
+#![tactic(auto)]
+
+pub use board::{Board, Exit};
+pub use instruction::execute;
+pub use view::CoreView;
+
+mod board;
+mod instruction;
+mod view;

@@ -1,0 +1,4 @@
+mod FileListLemmas
+pub mod Puts
+mod ReaderLemmas
+mod WriterLemmas

@@ -1,0 +1,8 @@
+use Rattle.std.proofs.Common.{◌≡◌, ◌++◌, take, vec_capacity}
+use Rattle.outside.proofs.mem_sink.append.Given as goal
+
+abbrev pub invariant-loop-byte : goal.invariant-loop-byte
+invariant-loop-byte l = record {
+  items : l.taken.items ≡ l.initial.taken.items ++ take l.byte-index l.bytes;
+  capacity : vec_capacity l.taken ≡ vec_capacity l.initial.taken;
+}

@@ -1,0 +1,9 @@
+pub mod Faults
+pub mod FileList
+pub mod FileShelf
+pub mod MemShelf
+pub mod MemSink
+pub mod OutSink
+pub mod Shelf
+pub mod Sink
+pub mod SureShelf

@@ -1,0 +1,32 @@
+-- What a fetch answers, and what it leaves.
+use Rattle.std.specs.Prelude.{◌≡◌, ℕ, ◌<◌, ◌≤◌, List, length, ⊤, Vec, Option, None, Some, Result, Ok, Err, IsSomeAnd, codes}
+use Rattle.std.specs.declared.alloc.Global.{Global}
+use Rattle.outside.specs.Faults.{risen}
+use Rattle.outside.specs.declared.shelf.ShelfError.{ShelfError}
+use Rattle.outside.specs.declared.shelf.ShelfError.TheVariants.{TooLong, Failed, OutOfMemory}
+
+-- a fact on what is told of a name, its content or that it is missing; nothing is asked where nothing is told
+abbrev pub IfTold : Option (List ℕ → Option (List ℕ)) → List ℕ → (Option (List ℕ) → Type 0) → Type 0
+IfTold None name P = ⊤
+IfTold (Some held) name P = P (held name)
+
+-- By the answer: the whole content, within the limit; a content above the limit; and two answers that may always come.
+-- So a missing name has one of these two, and of a content its length decides.
+abbrev pub IsFetched : Option (List ℕ → Option (List ℕ)) → List ℕ → ℕ → Result (Vec ℕ Global) ShelfError → Type 0
+IsFetched held name limit (Ok file) = (length file.items ≤ limit) × IfTold held name (λ content. content ≡ Some file.items)
+IsFetched held name limit (Err TooLong) = IfTold held name (λ content. IsSomeAnd content (λ bytes. limit < length bytes))
+IsFetched held name limit (Err Failed) = ⊤
+IsFetched held name limit (Err OutOfMemory) = ⊤
+
+-- a failure is counted and keeps the name; any other answer leaves count and name
+abbrev pub Blames : {T : Type 0} → ℕ → ℕ → List ℕ → List ℕ → List ℕ → Result T ShelfError → Type 0
+Blames before now old new name (Ok _) = (now ≡ before) × (new ≡ old)
+Blames before now old new name (Err TooLong) = (now ≡ before) × (new ≡ old)
+Blames before now old new name (Err Failed) = (now ≡ risen before) × (new ≡ name)
+Blames before now old new name (Err OutOfMemory) = (now ≡ before) × (new ≡ old)
+
+-- how an error is shown
+abbrev pub error_text : ShelfError → List ℕ
+error_text TooLong = codes "file too long"
+error_text Failed = codes "file not read"
+error_text OutOfMemory = codes "out of memory"

@@ -1,0 +1,5 @@
+pub mod Blocks
+pub mod Memory
+pub mod Numbers
+pub mod Runs
+pub mod Sharing

@@ -1,0 +1,96 @@
+ghost use Rattle.std.specs.Prelude.{◌≡◌, ◌+◌, ◌≤◌, ◌⊎◌, length};
+
+use crate::Phys;
+use bao_types::OutOfMemory;
+use std::alloc::Global;
+
+/// The bytes of a block of 16.
+fn bytes(block: &Phys) -> [u8; 16]
+    requires { length block.now ≡ 16 }
+{
+    let mut all = [0; 16];
+    for at in 0..16 {
+        all[at] = block.get(at as u64);
+    }
+    all
+}
+
+/// A number written into a block of 16 bytes 0xee, and then read: the bytes and the number.
+fn written(alloc: Global, at: u64, width: u32) -> Result<([u8; 16], u64), OutOfMemory>
+    requires width { (width ≡ 1) ⊎ (width ≡ 2) ⊎ (width ≡ 4) ⊎ (width ≡ 8) }
+    requires range { at + width ≤ 16 }
+{
+    let mut block = Phys::new(alloc, 16)?;
+    block.copy_in(0, &[0xee; 16]);
+    block.write_le(at, width, 0x8877_6655_4433_2211);
+    let number = block.read_le(at, width);
+    Ok((bytes(&block), number))
+}
+
+#[test]
+fn numbers(rt: HostRuntime) -> Result<(), OutOfMemory> {
+    let mut block = Phys::new(rt.alloc(), 16)?;
+    block.write_le(3, 4, 0x01020304);
+    assert_eq!(rt;
+        bytes(&block),
+        [0, 0, 0, 4, 3, 2, 1, 0, 0, 0, 0, 0, 0, 0, 0, 0]
+    );
+    assert_eq!(rt; block.read_le(2, 2), 0x0400);
+    Ok(())
+}
+
+#[test]
+fn every_width_at_both_ends(rt: HostRuntime) -> Result<(), OutOfMemory> {
+    const E: u8 = 0xee;
+    #[rattlefmt::skip]
+    let rows = [
+        // shows           written                      bytes                                                                     number
+        ("1 byte, first",  written(rt.alloc(), 0, 1)?,  [0x11, E, E, E, E, E, E, E, E, E, E, E, E, E, E, E],                      0x11),
+        ("1 byte, last",   written(rt.alloc(), 15, 1)?, [E, E, E, E, E, E, E, E, E, E, E, E, E, E, E, 0x11],                      0x11),
+        ("2 bytes, first", written(rt.alloc(), 0, 2)?,  [0x11, 0x22, E, E, E, E, E, E, E, E, E, E, E, E, E, E],                   0x2211),
+        ("2 bytes, last",  written(rt.alloc(), 14, 2)?, [E, E, E, E, E, E, E, E, E, E, E, E, E, E, 0x11, 0x22],                   0x2211),
+        ("4 bytes, first", written(rt.alloc(), 0, 4)?,  [0x11, 0x22, 0x33, 0x44, E, E, E, E, E, E, E, E, E, E, E, E],             0x4433_2211),
+        ("4 bytes, last",  written(rt.alloc(), 12, 4)?, [E, E, E, E, E, E, E, E, E, E, E, E, 0x11, 0x22, 0x33, 0x44],             0x4433_2211),
+        ("8 bytes, first", written(rt.alloc(), 0, 8)?,  [0x11, 0x22, 0x33, 0x44, 0x55, 0x66, 0x77, 0x88, E, E, E, E, E, E, E, E], 0x8877_6655_4433_2211),
+        ("8 bytes, last",  written(rt.alloc(), 8, 8)?,  [E, E, E, E, E, E, E, E, 0x11, 0x22, 0x33, 0x44, 0x55, 0x66, 0x77, 0x88], 0x8877_6655_4433_2211),
+    ];
+    for (shows, (bytes, number), expected, value) in rows {
+        assert_eq!(rt; bytes, expected, "{shows}");
+        assert_eq!(rt; number, value, "{shows}");
+    }
+    Ok(())
+}
+
+#[test]
+fn runs_of_bytes(rt: HostRuntime) -> Result<(), OutOfMemory> {
+    let whole = [1, 2, 3, 4, 5, 6, 7, 8, 9, 10, 11, 12, 13, 14, 15, 16];
+    let mut block = Phys::new(rt.alloc(), 16)?;
+    block.copy_in(0, &whole);
+    assert_eq!(rt; bytes(&block), whole);
+    block.copy_in(0, &[]);
+    block.copy_in(16, &[]);
+    assert_eq!(rt; bytes(&block), whole);
+    block.copy_in(14, &[70, 80]);
+    block.set(0, 90);
+    assert_eq!(rt;
+        bytes(&block),
+        [90, 2, 3, 4, 5, 6, 7, 8, 9, 10, 11, 12, 13, 14, 70, 80]
+    );
+    Ok(())
+}
+
+#[test]
+fn smallest_and_largest(rt: HostRuntime) -> Result<(), OutOfMemory> {
+    let mut empty = Phys::new(rt.alloc(), 0)?;
+    empty.copy_in(0, &[]);
+    assert_eq!(rt; empty.len(), 0);
+
+    let mut large = Phys::new(rt.alloc(), 0x4000000)?;
+    assert_eq!(rt; large.len(), 0x4000000);
+    assert_eq!(rt; large.get(0), 0);
+    assert_eq!(rt; large.read_le(0x3fffff8, 8), 0);
+    large.set(0x3ffffff, 5);
+    assert_eq!(rt; large.get(0x3ffffff), 5);
+    assert_eq!(rt; large.read_le(0x3fffffc, 4), 0x0500_0000);
+    Ok(())
+}

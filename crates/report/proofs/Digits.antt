@@ -1,0 +1,51 @@
+-- Lengths of numbers as text.
+use Rattle.std.proofs.Common.{◌≡◌, ℕ, zero, suc, ◌+◌, ◌-◌, ◌*◌, ◌/◌, ◌%◌, ◌^◌, ◌≤◌, ◌<◌, false, List, [], ◌∷◌, ◌++◌, length, take, get_or, refl, sym, ap, ◌∙◌, arith, length-append, length-take, sub-one, append_assoc, append-nil}
+use Rattle.std.proofs.lemmas.List.{take_more}
+use Rattle.std.proofs.lemmas.Fmt.{decimal_digit, decimal_step, length-decimal-le}
+use Rattle.std.specs.Fmt.{decimal, digit_glyph}
+use Rattle.report.specs.Digits.{hex, hex_bytes}
+
+pub length_hex : (k number : ℕ) → length (hex k number) ≡ k
+unfolding hex
+length_hex zero number = refl
+length_hex (suc k) number = omega (arith, length-append (hex k (number / 16)) (digit_glyph false (number % 16) ∷ []), length_hex k (number / 16))
+
+-- one digit more
+pub hex_more : (k number : ℕ) → 0 < k → hex k number ≡ hex (k - 1) (number / 16) ++ digit_glyph false (number % 16) ∷ []
+unfolding hex
+hex_more zero number some = absurd (omega arith)
+hex_more (suc k) number some = rw sub-one refl
+
+pub length_hex_bytes : (bytes : List ℕ) → length (hex_bytes bytes) ≡ 2 * length bytes
+unfolding hex_bytes
+length_hex_bytes [] = refl
+length_hex_bytes (byte ∷ bytes) = omega (arith, length-append (hex 2 byte) (hex_bytes bytes), length_hex 2 byte, length_hex_bytes bytes)
+
+-- one byte more
+pub hex_bytes_push : (bytes : List ℕ) (byte : ℕ) → hex_bytes (bytes ++ byte ∷ []) ≡ hex_bytes bytes ++ hex 2 byte
+unfolding hex_bytes
+hex_bytes_push [] byte = append-nil (hex 2 byte)
+hex_bytes_push (b ∷ bytes) byte = ap (λ t. hex 2 b ++ t) (hex_bytes_push bytes byte) ∙ sym (append_assoc (hex 2 b) (hex_bytes bytes) (hex 2 byte))
+
+-- one byte more of a list
+pub hex_bytes_more : (bytes : List ℕ) (i : ℕ) → i < length bytes
+    → hex_bytes (take (i + 1) bytes) ≡ hex_bytes (take i bytes) ++ hex 2 (get_or bytes i 0)
+hex_bytes_more bytes i low = rw (take_more bytes i 0 low) (hex_bytes_push (take i bytes) (get_or bytes i 0))
+
+pub length_hex_bytes_take : (bytes : List ℕ) (i : ℕ) → i ≤ length bytes → length (hex_bytes (take i bytes)) ≡ 2 * i
+length_hex_bytes_take bytes i low = omega (arith, length_hex_bytes (take i bytes), length-take i bytes)
+
+pub decimal_one : (n : ℕ) → n < 10 → decimal n ≡ (48 + n) ∷ []
+decimal_one n low = decimal_digit n low
+
+pub decimal_more : (n : ℕ) → 10 ≤ n → n < 2 ^ 32 → decimal n ≡ decimal (n / 10) ++ ((48 + n % 10) ∷ [])
+decimal_more n low high = decimal_step n low (omega arith)
+
+pub length_decimal_one : (n : ℕ) → n < 10 → length (decimal n) ≡ 1
+length_decimal_one n low = rw (decimal_digit n low) refl
+
+pub length_decimal_more : (n : ℕ) → 10 ≤ n → n < 2 ^ 32 → length (decimal n) ≡ length (decimal (n / 10)) + 1
+length_decimal_more n low high = ap length (decimal_more n low high) ∙ length-append (decimal (n / 10)) ((48 + n % 10) ∷ [])
+
+pub length_decimal_32 : (n : ℕ) → n < 2 ^ 32 → length (decimal n) ≤ 10
+length_decimal_32 n high = length-decimal-le 10 n (omega arith) (omega arith) (omega arith)

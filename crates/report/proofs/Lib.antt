@@ -1,0 +1,5 @@
+pub mod Digits
+pub mod Progress
+pub mod Texts
+pub mod Runs
+pub mod Sample

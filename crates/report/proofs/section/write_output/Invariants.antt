@@ -1,0 +1,11 @@
+use Rattle.std.proofs.Common.{◌≡◌, drop}
+use Rattle.report.specs.Digits.{hex_bytes}
+use Rattle.report.proofs.Progress.{IsUnderWay}
+use Rattle.report.proofs.section.write_output.Given as goal
+
+abbrev pub invariant-loop-i : goal.invariant-loop-i
+invariant-loop-i g l = record {
+  text : IsUnderWay (g.K.Sink.taken l.initial.sink) (g.K.Sink.taken l.sink) (hex_bytes ((g.B.Board.state l.board).console l.port))
+      (hex_bytes (drop l.i ((g.B.Board.state l.board).console l.port)));
+  faults : g.K.Sink.faults l.sink ≡ g.K.Sink.faults l.initial.sink;
+}

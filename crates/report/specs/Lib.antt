@@ -1,0 +1,5 @@
+pub mod Digits
+pub mod Lines
+pub mod Section
+pub mod Groups
+pub mod Status

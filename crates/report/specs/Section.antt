@@ -1,0 +1,117 @@
+-- The report: a section for each VM, then `done`.
+use Rattle.std.specs.Prelude.{ℕ, zero, suc, ◌+◌, ◌==◌, ◌&&◌, nat_lt, Bool, true, false, not, if◌then◌else◌, List, [], ◌∷◌, ◌++◌, Option, None, Some, slice_get, codes}
+use Rattle.std.specs.List.{list_all}
+use Rattle.board.specs.declared.view.CoreView.{CoreView}
+use Rattle.board.specs.Config.{Config, Vm, Dev}
+use Rattle.board.specs.Map.{Kind, Ram, Port, Window, Hole, kind_at}
+use Rattle.board.specs.Machine.{core_at}
+use Rattle.board.specs.View.{view_of}
+use Rattle.board.specs.Flat.{Flat, Power, On, Off}
+use Rattle.report.specs.Lines.{vm_line, end_line, core_on_line, core_off_line, register_line, nonzero_line, x_name, console_line, memory_line, done_line}
+
+-- the general registers from a number on
+unfoldable pub x_text : ℕ → List ℕ → List ℕ
+x_text n [] = []
+x_text n (value ∷ values) = nonzero_line (x_name n) value ++ x_text (n + 1) values
+
+-- the stack pointers
+unfoldable pub stack_text : CoreView → List ℕ
+stack_text view = nonzero_line (codes "sp_el0") view.sp0 ++ nonzero_line (codes "sp_el1") view.sp1
+
+-- what an exception returns to, what it says of its cause, and what governs EL1
+unfoldable pub return_text : CoreView → List ℕ
+return_text view = nonzero_line (codes "elr_el1") view.elr ++ nonzero_line (codes "spsr_el1") view.spsr
+
+unfoldable pub fault_text : CoreView → List ℕ
+fault_text view = nonzero_line (codes "esr_el1") view.esr ++ nonzero_line (codes "far_el1") view.far
+
+unfoldable pub control_text : CoreView → List ℕ
+control_text view = nonzero_line (codes "vbar_el1") view.vbar ++ nonzero_line (codes "sctlr_el1") view.sctlr
+
+unfoldable pub exception_text : CoreView → List ℕ
+exception_text view = return_text view ++ (fault_text view ++ control_text view)
+
+unfoldable pub program_text : CoreView → List ℕ
+program_text view =
+    register_line (codes "pc") 16 view.pc ++ (register_line (codes "pstate") 8 view.pstate ++ stack_text view)
+
+unfoldable pub registers_text : CoreView → List ℕ
+registers_text view = program_text view ++ (x_text 0 view.x ++ exception_text view)
+
+-- a core that the machine doesn't have is off
+abbrev pub power_line : ℕ → Option Power → List ℕ
+power_line j None = core_off_line j
+power_line j (Some On) = core_on_line j
+power_line j (Some Off) = core_off_line j
+
+-- the virtual core j, which is this physical core
+unfoldable pub core_text : Flat → ℕ → ℕ → List ℕ
+core_text f j core = power_line j (slice_get f.powers core) ++ registers_text (view_of (core_at f.cores core))
+
+-- the virtual cores from a number on
+unfoldable pub cores_text : Flat → ℕ → List ℕ → List ℕ
+cores_text f j [] = []
+cores_text f j (core ∷ cores) = core_text f j core ++ cores_text f (j + 1) cores
+
+-- ports 0 to 7 are consoles
+abbrev pub is_console : ℕ → Bool
+is_console port = nat_lt port 8
+
+-- the VM's consoles, in the order of its devs
+unfoldable pub consoles_text : Flat → List Dev → List ℕ
+consoles_text f [] = []
+consoles_text f (dev ∷ devs) =
+    (if is_console dev.port then console_line dev.port (f.console dev.port) else []) ++ consoles_text f devs
+
+-- so many bytes from an address on
+unfoldable pub run_of : (ℕ → ℕ) → ℕ → ℕ → List ℕ
+run_of bytes at zero = []
+run_of bytes at (suc n) = bytes at ∷ run_of bytes (at + 1) n
+
+-- the VM has memory there, of its own or shared
+abbrev pub is_memory : Kind → Bool
+is_memory (Ram write exec) = true
+is_memory (Port id) = false
+is_memory (Window shmem write) = true
+is_memory Hole = false
+
+abbrev pub are_zero : List ℕ → Bool
+are_zero bytes = list_all (λ byte. byte == 0) bytes
+
+-- 16 bytes where the VM has memory and they aren't all zero. Its ranges are multiples of 64, so the first byte tells
+unfoldable pub group_text : Config → Vm → (ℕ → ℕ) → ℕ → List ℕ
+group_text cfg vm bytes at =
+    if is_memory (kind_at cfg vm at) && not (are_zero (run_of bytes at 16)) then memory_line at (run_of bytes at 16) else []
+
+-- so many groups of 16 bytes from an address on
+unfoldable pub memory_text : Config → Vm → (ℕ → ℕ) → ℕ → ℕ → List ℕ
+memory_text cfg vm bytes zero at = []
+memory_text cfg vm bytes (suc n) at = group_text cfg vm bytes at ++ memory_text cfg vm bytes n (at + 16)
+
+-- the whole address space, 2^48 bytes
+abbrev pub all_groups : ℕ
+all_groups = 0x100000000000
+
+-- what the report shows of a VM
+unfoldable pub vm_text : Config → Flat → Vm → List ℕ
+vm_text cfg f vm =
+    vm_line vm.name
+    ++ (cores_text f 0 vm.cores
+    ++ (consoles_text f vm.devs
+    ++ (memory_text cfg vm f.bytes all_groups 0 ++ end_line vm.name)))
+
+abbrev pub section_of : Config → Flat → Option Vm → List ℕ
+section_of cfg f None = []
+section_of cfg f (Some vm) = vm_text cfg f vm
+
+-- the section of the VM of that number
+abbrev pub section : Config → Flat → ℕ → List ℕ
+section cfg f v = section_of cfg f (slice_get cfg.vms v)
+
+unfoldable pub sections : Config → Flat → List Vm → List ℕ
+sections cfg f [] = []
+sections cfg f (vm ∷ vms) = vm_text cfg f vm ++ sections cfg f vms
+
+-- the whole report
+abbrev pub report : Config → Flat → List ℕ
+report cfg f = sections cfg f cfg.vms ++ done_line

@@ -1,0 +1,15 @@
+//! How the program ends, and the text that it writes: a section for each VM, or the line of a refusal.
+//!
+//! The text itself is said in `specs/`, over the model's state. Nothing here takes memory.
+#![tactic(auto)]
+
+pub use refusal::write_refusal;
+pub use status::{FileId, Part, Status};
+pub use whole::write_report;
+
+mod line;
+mod lines;
+mod refusal;
+mod section;
+mod status;
+mod whole;

@@ -1,0 +1,151 @@
+ghost use Rattle.std.specs.Prelude.{◌≡◌, ◌+◌, ◌*◌, ◌<◌, ◌≤◌, ◌++◌, length};
+ghost use Rattle.outside.specs.Sink.{Takes, HasCause};
+ghost use Rattle.report.specs.Lines.{vm_line, end_line, core_on_line, register_line, nonzero_line, x_name, console_head, memory_line, newline};
+ghost use Rattle.std.specs.Fmt.{decimal};
+ghost use Rattle.report.specs.Digits.{hex};
+
+use crate::line::{Line, push_decimal, push_hex, push_hex_bytes, push_text};
+use outside::{Sink, SinkFailed};
+
+/// `vm NAME`
+#[tactic(auto, unfolding(crate::specs::Lines::vm_line))]
+pub fn put_vm<K: Sink>(sink: &mut K, name: &[u8]) -> Result<(), SinkFailed>
+    requires { length name.now ≤ 16 }
+    ensures taken { Takes (K.taken sink.old) (K.taken sink.new) (vm_line name.now) result }
+    ensures cause { HasCause (K.faults sink.old) (K.faults sink.new) result }
+{
+    put_named(sink, b"vm ", name)
+}
+
+/// `end NAME`
+#[tactic(auto, unfolding(crate::specs::Lines::end_line))]
+pub fn put_end<K: Sink>(sink: &mut K, name: &[u8]) -> Result<(), SinkFailed>
+    requires { length name.now ≤ 16 }
+    ensures taken { Takes (K.taken sink.old) (K.taken sink.new) (end_line name.now) result }
+    ensures cause { HasCause (K.faults sink.old) (K.faults sink.new) result }
+{
+    put_named(sink, b"end ", name)
+}
+
+/// A word and a name.
+fn put_named<K: Sink>(sink: &mut K, word: &[u8], name: &[u8]) -> Result<(), SinkFailed>
+    requires word { length word.now ≤ 16 }
+    requires name { length name.now ≤ 16 }
+    ensures taken { Takes (K.taken sink.old) (K.taken sink.new) (word.now ++ (name.now ++ newline)) result }
+    ensures cause { HasCause (K.faults sink.old) (K.faults sink.new) result }
+{
+    let mut line = Line::new();
+    push_text(&mut line, word);
+    push_text(&mut line, name);
+    push_text(&mut line, b"\n");
+    sink.put(&line)
+}
+
+/// A word, a number and the rest of the line.
+fn put_numbered<K: Sink>(
+    sink: &mut K,
+    word: &[u8],
+    number: u32,
+    rest: &[u8],
+) -> Result<(), SinkFailed>
+    requires word { length word.now ≤ 16 }
+    requires rest { length rest.now ≤ 16 }
+    ensures taken { Takes (K.taken sink.old) (K.taken sink.new) (word.now ++ (decimal number ++ rest.now)) result }
+    ensures cause { HasCause (K.faults sink.old) (K.faults sink.new) result }
+{
+    let mut line = Line::new();
+    push_text(&mut line, word);
+    push_decimal(&mut line, number);
+    push_text(&mut line, rest);
+    sink.put(&line)
+}
+
+/// A register with so many hexadecimal digits.
+#[tactic(auto, unfolding(crate::specs::Lines::register_line))]
+pub fn put_register<K: Sink>(
+    sink: &mut K,
+    name: &[u8],
+    digits: u32,
+    value: u64,
+) -> Result<(), SinkFailed>
+    requires name { length name.now ≤ 16 }
+    requires digits { digits ≤ 16 }
+    ensures taken { Takes (K.taken sink.old) (K.taken sink.new) (register_line name.now digits value) result }
+    ensures cause { HasCause (K.faults sink.old) (K.faults sink.new) result }
+{
+    let mut line = Line::new();
+    push_text(&mut line, name);
+    push_text(&mut line, b" ");
+    push_hex(&mut line, digits, value);
+    push_text(&mut line, b"\n");
+    sink.put(&line)
+}
+
+/// A 64-bit register, where it isn't zero.
+#[tactic(auto, using(crate::proofs::Progress::nothing_taken), unfolding(crate::specs::Lines::nonzero_line))]
+pub fn put_nonzero<K: Sink>(sink: &mut K, name: &[u8], value: u64) -> Result<(), SinkFailed>
+    requires { length name.now ≤ 16 }
+    ensures taken { Takes (K.taken sink.old) (K.taken sink.new) (nonzero_line name.now value) result }
+    ensures cause { HasCause (K.faults sink.old) (K.faults sink.new) result }
+{
+    if value == 0 {
+        return Ok(());
+    }
+    put_register(sink, name, 16, value)
+}
+
+/// `core J on`
+#[tactic(auto, unfolding(crate::specs::Lines::core_on_line))]
+pub fn put_core_on<K: Sink>(sink: &mut K, j: u8) -> Result<(), SinkFailed>
+    ensures taken { Takes (K.taken sink.old) (K.taken sink.new) (core_on_line j) result }
+    ensures cause { HasCause (K.faults sink.old) (K.faults sink.new) result }
+{
+    put_numbered(sink, b"core ", u32::from(j), b" on\n")
+}
+
+/// A general register, where it isn't zero.
+#[tactic(auto, unfolding(crate::specs::Lines::x_name))]
+pub fn put_x<K: Sink>(sink: &mut K, n: u8, value: u64) -> Result<(), SinkFailed>
+    ensures taken { Takes (K.taken sink.old) (K.taken sink.new) (nonzero_line (x_name n) value) result }
+    ensures cause { HasCause (K.faults sink.old) (K.faults sink.new) result }
+{
+    let mut name = Line::new();
+    push_text(&mut name, b"x");
+    push_decimal(&mut name, u32::from(n));
+    put_nonzero(sink, &name, value)
+}
+
+/// `console ID=`
+#[tactic(auto, unfolding(crate::specs::Lines::console_head))]
+pub fn put_console_head<K: Sink>(sink: &mut K, id: u8) -> Result<(), SinkFailed>
+    ensures taken { Takes (K.taken sink.old) (K.taken sink.new) (console_head id) result }
+    ensures cause { HasCause (K.faults sink.old) (K.faults sink.new) result }
+{
+    put_numbered(sink, b"console ", u32::from(id), b"=")
+}
+
+/// Two digits of a byte.
+pub fn put_byte<K: Sink>(sink: &mut K, byte: u8) -> Result<(), SinkFailed>
+    ensures taken { Takes (K.taken sink.old) (K.taken sink.new) (hex 2 byte) result }
+    ensures cause { HasCause (K.faults sink.old) (K.faults sink.new) result }
+{
+    let mut line = Line::new();
+    push_hex(&mut line, 2, u64::from(byte));
+    sink.put(&line)
+}
+
+/// `m`, an address and 16 bytes.
+#[tactic(auto, unfolding(crate::specs::Lines::memory_line))]
+pub fn put_memory<K: Sink>(sink: &mut K, at: u64, bytes: &[u8]) -> Result<(), SinkFailed>
+    requires { length bytes.now ≤ 16 }
+    ensures taken { Takes (K.taken sink.old) (K.taken sink.new) (memory_line at bytes.now) result }
+    ensures cause { HasCause (K.faults sink.old) (K.faults sink.new) result }
+{
+    let mut line = Line::new();
+    push_text(&mut line, b"m ");
+    push_hex(&mut line, 16, at);
+    push_text(&mut line, b" ");
+    push_hex_bytes(&mut line, bytes);
+    push_text(&mut line, b"\n");
+    sink.put(&line)
+}

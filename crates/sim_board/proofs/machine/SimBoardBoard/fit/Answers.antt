@@ -1,0 +1,23 @@
+use Rattle.std.proofs.Common.{◌≡◌, ap, ◌∙◌, map, replicate, get_or, rules}
+use Rattle.std.proofs.lemmas.Simd.{map-map}
+use Rattle.bao_types.specs.declared.range.ByteRange.{ByteRange}
+use Rattle.bao_types.specs.Shape.{shape_data}
+use Rattle.a64_state.specs.Registers.{reset_core}
+use Rattle.board.specs.Machine.{no_region}
+use Rattle.sim_board.specs.Memory.{bank_bytes}
+use Rattle.sim_board.proofs.Bank.{bank_bytes-zeros}
+use Rattle.sim_board.proofs.Fresh.{fresh_from}
+use Rattle.sim_board.proofs.machine.SimBoardBoard.fit.Goals as goal
+
+pub returns-clause-ok : goal.returns-clause-ok
+returns-clause-ok c =
+    let shape : shape_data c.in_ok-copy.copy ≡ shape_data c.args.shape.now = search rules in
+    let bank : ByteRange = get_or c.deref.result.now 0 (record { base = 0; size = 0 }) in
+    let zeros : c.in_ok-memory.memory.items ≡ replicate bank.size 0 = search rules in
+    let bytes : bank_bytes bank c.in_ok-memory.memory.items ≡ (λ at. 0) =
+    ap (bank_bytes bank) zeros ∙ bank_bytes-zeros bank bank.size in
+    let cores : c.in_ok-cores.cores.items ≡ map (λ place. reset_core place.affinity) c.args.shape.now.cores.items =
+    search rules in
+    let listed : c.in_ok-entries.entries.items
+    ≡ map (λ place. record { items = replicate place.entries no_region }) c.args.shape.now.cores.items = search rules in
+    fresh_from _ _ _ _ _ _ _ _ shape bytes cores (ap (map (λ e. e.items)) listed ∙ map-map _ _ _)

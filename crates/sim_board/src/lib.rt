@@ -1,0 +1,10 @@
+//! The simulated machine: memory, cores and EL2 entries, behind the trait `Board`.
+//!
+//! A step fetches one word, which the entries must allow at each of its bytes, and executes it. What the instructions do
+//! is said in `board`; what an entry allows is said in `pmsa_stage2`.
+#![tactic(auto)]
+
+pub use machine::SimBoard;
+
+mod fetch;
+mod machine;

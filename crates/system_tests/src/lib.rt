@@ -1,0 +1,8 @@
+//! What the crates do together: worked runs, by the definitions and by the program.
+#![tactic(auto)]
+
+pub use worked_rows::rows;
+
+#[cfg(test)]
+mod tests;
+mod worked_rows;
