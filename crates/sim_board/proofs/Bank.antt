@@ -1,5 +1,5 @@
 -- Bytes of a bank, by address.
-use Rattle.std.proofs.Common.{◌≡◌, ℕ, zero, suc, replicate, ◌+◌, ◌-◌, ◌<◌, ◌≤◌, List, ◌++◌, length, get_or, take, drop, Bool, true, false, refl, ap, ◌∙◌, arith, get_or-take, get_or-drop, length-append, length-take}
+use Rattle.std.proofs.Common.{◌≡◌, ℕ, ◌+◌, ◌-◌, ◌<◌, ◌≤◌, List, ◌++◌, length, get_or, take, drop, Bool, true, false, refl, ap, ◌∙◌, arith, get_or-take, get_or-drop, length-append, length-take}
 use Rattle.std.specs.Prelude.{IsTrue, nat_le, nat_lt, slice_index}
 use Rattle.std.proofs.lemmas.Bool.Decides.{nat_tests}
 use Rattle.std.proofs.Math.ListN.{get_or-append}
@@ -95,16 +95,11 @@ module _ (bank : ByteRange) (memory bytes : List ℕ) (at : ℕ) (size : length 
   pub bank_bytes_copied : bank_bytes bank replaced ≡ over at bytes (bank_bytes bank memory)
   bank_bytes_copied = λ i a. copied_at a (is_within bank a) (nat_le at a) (nat_lt a (at + length bytes)) refl refl refl i
 
--- a byte of a list of zeros
-get_or-zeros : (n i : ℕ) → slice_index (replicate n 0) i ≡ 0
-get_or-zeros zero i = refl
-get_or-zeros (suc n) zero = refl
-get_or-zeros (suc n) (suc i) = get_or-zeros n i
-
 -- a bank of zeros
-pub bank_bytes-zeros : (bank : ByteRange) (n : ℕ) → bank_bytes bank (replicate n 0) ≡ (λ a. 0)
-bank_bytes-zeros bank n = λ i a. zero_at a (is_within bank a) refl i
+pub bank_bytes-zeros : (bank : ByteRange) (memory : List ℕ) → ((i : ℕ) → slice_index memory i ≡ 0)
+    → bank_bytes bank memory ≡ (λ a. 0)
+bank_bytes-zeros bank memory zeros = λ i a. zero_at a (is_within bank a) refl i
   where
-    zero_at : (a : ℕ) (within : Bool) → is_within bank a ≡ within → bank_bytes bank (replicate n 0) a ≡ 0
-    zero_at a true w = rw w (get_or-zeros n (a - bank.base))
+    zero_at : (a : ℕ) (within : Bool) → is_within bank a ≡ within → bank_bytes bank memory a ≡ 0
+    zero_at a true w = rw w (zeros (a - bank.base))
     zero_at a false w = rw w refl

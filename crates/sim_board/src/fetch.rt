@@ -7,15 +7,16 @@ ghost use Rattle.sim_board.specs.Memory.{bank_bytes};
 use a64_state::Core;
 use bao_types::{Access, ByteRange, Region, Verdict};
 use board::{Exit, execute};
+use phys_memory::Phys;
 use pmsa_stage2::judge2;
 
 /// The byte of a bank at an address, 0 outside the bank.
-pub fn byte_of(bank: ByteRange, memory: &[u8], at: u64) -> u8
+pub fn byte_of(bank: ByteRange, memory: &Phys, at: u64) -> u8
     requires { length memory.now ≡ bank.size }
     ensures { result ≡ bank_bytes bank memory.now at }
 {
     if bank.contains(at) {
-        memory[(at - bank.base) as usize]
+        memory.get(at - bank.base)
     } else {
         0
     }
@@ -23,7 +24,7 @@ pub fn byte_of(bank: ByteRange, memory: &[u8], at: u64) -> u8
 
 /// Lets a core execute the instruction at its PC.
 #[tactic(auto, using(crate::proofs::Fetched::core_after_fetched, crate::proofs::Fetched::is_unbuilt_fetched), unfolding(board::specs::Attempt::is_unbuilt, board::specs::Attempt::core_after))]
-pub fn step_core(core: &mut Core, entries: &[Region], bank: ByteRange, memory: &[u8]) -> Exit
+pub fn step_core(core: &mut Core, entries: &[Region], bank: ByteRange, memory: &Phys) -> Exit
     requires { length memory.now ≡ bank.size }
     ensures core { core.new ≡ core_after (by_entries entries.now) (bank_bytes bank memory.now) core.old }
     ensures exit { result ≡ (if is_unbuilt (by_entries entries.now) (bank_bytes bank memory.now) core.old
@@ -42,7 +43,7 @@ pub fn step_core(core: &mut Core, entries: &[Region], bank: ByteRange, memory: &
 }
 
 /// The word at `pc`, where it may be fetched.
-fn fetch(pc: u64, entries: &[Region], bank: ByteRange, memory: &[u8]) -> Option<u32>
+fn fetch(pc: u64, entries: &[Region], bank: ByteRange, memory: &Phys) -> Option<u32>
     requires { length memory.now ≡ bank.size }
     ensures { result ≡ (if can_fetch (by_entries entries.now) pc
         then Some (word_at (bank_bytes bank memory.now) pc) else None) }

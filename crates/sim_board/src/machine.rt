@@ -2,6 +2,7 @@ ghost use Rattle.std.specs.Prelude.{◌≡◌, ◌+◌, ◌≤◌, ◌<◌, ◌+
 ghost use Rattle.bao_types.specs.Shape.{shape_data};
 ghost use Rattle.a64_state.specs.Registers.{reset_core};
 ghost use Rattle.board.specs.Machine.{no_region, entries_at};
+ghost use Rattle.sim_board.specs.Memory.{kept};
 ghost use Rattle.sim_board.specs.Sound.{IsSound};
 
 use crate::fetch::{byte_of, step_core};
@@ -9,16 +10,16 @@ use a64_state::Core;
 use arrayvec::ArrayVec;
 use bao_types::{ByteRange, CorePlace, OutOfMemory, Region, Shape};
 use board::{Board, CoreView, Exit};
+use phys_memory::Phys;
 use std::alloc::{AllocError, Global};
 
 /// The simulated machine.
 #[derive(Drop)]
 pub struct SimBoard {
-    fitted: bool,
     shape: Shape,
     bank: ByteRange,
-    /// The bytes of the bank.
-    memory: Vec<u8>,
+    /// The bytes of the bank; none before the board is fitted.
+    memory: Option<Phys>,
     cores: Vec<Core>,
     /// The EL2 entries of each core.
     entries: Vec<ArrayVec<Region, 32>>,
@@ -26,7 +27,7 @@ pub struct SimBoard {
     count: u64,
     entered: u64,
     spent: u64,
-    ghost sound: { IsSound shape bank (length memory.items) (length cores.items) (length entries.items) entered spent },
+    ghost sound: { IsSound shape bank (length (kept memory)) (length cores.items) (length entries.items) entered spent },
 }
 
 impl SimBoard {
@@ -38,10 +39,9 @@ impl SimBoard {
         ensures entered { (state_of result).entered ≡ 0 }
     {
         SimBoard {
-            fitted: false,
             shape: Shape::default(),
             bank: ByteRange::default(),
-            memory: Vec::new(alloc),
+            memory: None,
             cores: Vec::new(alloc),
             entries: Vec::new(alloc),
             count: 0,
@@ -95,21 +95,6 @@ fn zeros(count: u8) -> ArrayVec<Region, 32>
     entries
 }
 
-/// Copies bytes into memory. All other bytes stay.
-fn copy_at(memory: &mut Vec<u8>, from: usize, bytes: &[u8])
-    requires { from + length bytes.now ≤ length memory.old.items }
-    ensures { memory.new.items ≡ take from memory.old.items ++ bytes.now ++ drop (from + length bytes.now) memory.old.items }
-{
-    copy_into(memory, from, bytes);
-}
-
-fn copy_into(memory: &mut [u8], from: usize, bytes: &[u8])
-    requires { from + length bytes.now ≤ length memory.old }
-    ensures { memory.new ≡ take from memory.old ++ bytes.now ++ drop (from + length bytes.now) memory.old }
-{
-    memory[from..from + bytes.len()].copy_from_slice(bytes);
-}
-
 /// Sets one entry of one core.
 fn set_one(entries: &mut Vec<ArrayVec<Region, 32>>, core: usize, index: usize, entry: Region)
     requires core { core < length entries.old.items }
@@ -136,14 +121,13 @@ impl Board for SimBoard {
     fn fit(&mut self, alloc: Global, shape: &Shape) -> Result<(), OutOfMemory> {
         let bank = shape.banks[0];
         let copy = copy_shape(shape)?;
-        let memory = vec![in alloc; 0u8; bank.size as usize]?;
+        let memory = Phys::new(alloc, bank.size)?;
         let cores = reset_cores(alloc, &shape.cores)?;
         let entries = zero_entries(alloc, &shape.cores)?;
         *self = SimBoard {
-            fitted: true,
             shape: copy,
             bank,
-            memory,
+            memory: Some(memory),
             cores,
             entries,
             count: 0,
@@ -154,8 +138,11 @@ impl Board for SimBoard {
     }
 
     fn load(&mut self, at: u64, bytes: &[u8]) {
+        let Some(memory) = &mut self.memory else {
+            unreachable!()
+        };
         if !bytes.is_empty() {
-            copy_at(&mut self.memory, (at - self.bank.base) as usize, bytes);
+            memory.copy_in(at - self.bank.base, bytes);
         }
     }
 
@@ -181,13 +168,11 @@ impl Board for SimBoard {
     }
 
     fn step(&mut self, core: u8, now: u64) -> Exit {
+        let Some(memory) = &self.memory else {
+            unreachable!()
+        };
         let at = usize::from(core);
-        let exit = step_core(
-            &mut self.cores[at],
-            &self.entries[at],
-            self.bank,
-            &self.memory,
-        );
+        let exit = step_core(&mut self.cores[at], &self.entries[at], self.bank, memory);
         self.count = now;
         self.entered += 1;
         self.spent += 1;
@@ -195,7 +180,10 @@ impl Board for SimBoard {
     }
 
     fn byte_at(&self, at: u64) -> u8 {
-        byte_of(self.bank, &self.memory, at)
+        let Some(memory) = &self.memory else {
+            unreachable!()
+        };
+        byte_of(self.bank, memory, at)
     }
 
     fn core_view(&self, core: u8) -> CoreView {

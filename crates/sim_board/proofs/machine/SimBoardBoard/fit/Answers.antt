@@ -1,4 +1,5 @@
-use Rattle.std.proofs.Common.{◌≡◌, ap, ◌∙◌, map, replicate, get_or, rules}
+use Rattle.std.proofs.Common.{◌≡◌, ℕ, ap, ◌∙◌, map, replicate, get_or, rules}
+use Rattle.std.specs.Prelude.{slice_index}
 use Rattle.std.proofs.lemmas.Simd.{map-map}
 use Rattle.bao_types.specs.declared.range.ByteRange.{ByteRange}
 use Rattle.bao_types.specs.Shape.{shape_data}
@@ -13,9 +14,8 @@ pub returns-clause-ok : goal.returns-clause-ok
 returns-clause-ok c =
     let shape : shape_data c.in_ok-copy.copy ≡ shape_data c.args.shape.now = search rules in
     let bank : ByteRange = get_or c.deref.result.now 0 (record { base = 0; size = 0 }) in
-    let zeros : c.in_ok-memory.memory.items ≡ replicate bank.size 0 = search rules in
-    let bytes : bank_bytes bank c.in_ok-memory.memory.items ≡ (λ at. 0) =
-    ap (bank_bytes bank) zeros ∙ bank_bytes-zeros bank bank.size in
+    let zeros : (at : ℕ) → slice_index c.in_ok-memory.memory at ≡ 0 = search rules in
+    let bytes : bank_bytes bank c.in_ok-memory.memory ≡ (λ at. 0) = bank_bytes-zeros bank c.in_ok-memory.memory zeros in
     let cores : c.in_ok-cores.cores.items ≡ map (λ place. reset_core place.affinity) c.args.shape.now.cores.items =
     search rules in
     let listed : c.in_ok-entries.entries.items
