@@ -1,0 +1,5 @@
+pub mod Texts
+pub mod Lists
+pub mod Spelling
+pub mod OnLiterals
+pub mod Rows

@@ -1,0 +1,57 @@
+-- The bounds of the integers of a configuration, which `docs/configuration.md` lists too.
+use Rattle.std.specs.Prelude.{◌≡◌, ℕ, ℤ, pos, negsuc, ◌≤◌, ◌%◌, ◌==◌, Bool, false, ◌&&◌, nat_le}
+use Rattle.bao_config.specs.declared.bounds.Bounds.{Bounds}
+
+-- the number is within the bounds, both included, and a multiple of the stated one
+pub record IsWithin (bounds : Bounds) (n : ℕ) : Type 0 where
+  pub least : bounds.least ≤ n
+  pub most : n ≤ bounds.most
+  pub multiple : n % bounds.multiple ≡ 0
+
+-- the same as a test; no negative number passes
+abbrev pub is_within : Bounds → ℤ → Bool
+is_within bounds (pos n) = nat_le bounds.least n && nat_le n bounds.most && (n % bounds.multiple == 0)
+is_within bounds (negsuc n) = false
+
+abbrev pub version : Bounds
+version = record { least = 1; most = 1; multiple = 1 }
+
+-- the first address of a range: up to 2^48 - 64
+abbrev pub base : Bounds
+base = record { least = 0; most = 0xffffffffffc0; multiple = 64 }
+
+-- the number of bytes of a range: up to 2^48
+abbrev pub size : Bounds
+size = record { least = 64; most = 0x1000000000000; multiple = 64 }
+
+-- the number of EL2 protection regions of a core
+abbrev pub entries : Bounds
+entries = record { least = 1; most = 32; multiple = 1 }
+
+-- the address of a frame of the interrupt controller: up to 2^48 - 0x10000
+abbrev pub frame : Bounds
+frame = record { least = 0x10000; most = 0xffffffff0000; multiple = 0x10000 }
+
+-- a place in the standard list of ports
+abbrev pub port_id : Bounds
+port_id = record { least = 0; most = 15; multiple = 1 }
+
+-- an interrupt number that is shared by all cores
+abbrev pub interrupt : Bounds
+interrupt = record { least = 32; most = 95; multiple = 1 }
+
+-- how many events a shared memory has
+abbrev pub events : Bounds
+events = record { least = 1; most = 8; multiple = 1 }
+
+-- the address of an instruction: up to 2^48 - 4
+abbrev pub instruction : Bounds
+instruction = record { least = 0; most = 0xfffffffffffc; multiple = 4 }
+
+-- a place in the list of cores
+abbrev pub core : Bounds
+core = record { least = 0; most = 7; multiple = 1 }
+
+-- a place in the list of shared memories
+abbrev pub shared : Bounds
+shared = record { least = 0; most = 7; multiple = 1 }

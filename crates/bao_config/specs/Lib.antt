@@ -1,0 +1,9 @@
+pub mod Bounds
+pub mod Faults
+pub mod KeyTable
+pub mod Data
+pub mod Fits
+pub mod Spelled
+pub mod Config
+pub mod Answer
+pub mod Path

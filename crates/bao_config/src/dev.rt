@@ -1,0 +1,49 @@
+//! Readers of the ports that a VM is given.
+ghost use Rattle.std.specs.Prelude.{Some, codes};
+ghost use Rattle.toml.specs.Data.{get_member};
+ghost use Rattle.toml.specs.View.{view, table_view};
+ghost use Rattle.bao_config.specs.Faults.{faults, or_none};
+ghost use Rattle.bao_config.specs.KeyTable.{dev, devs};
+ghost use Rattle.bao_config.specs.Spelled.{dev_of, tables_of, keys_of};
+ghost use Rattle.bao_config.specs.Fits.{ListFits, DevFits};
+ghost use Rattle.bao_config.specs.Answer.{Reads};
+
+use crate::bounds::{INTERRUPT, PORT_ID};
+use crate::config::Dev;
+use crate::error::{ConfigError, Spot};
+use crate::fields::{find, integer_at, items_of, only_known, table_of};
+use arrayvec::ArrayVec;
+use toml::{Table, Value};
+
+#[tactic(auto, unfolding(crate::specs::KeyTable::dev))]
+fn read_dev(item: &Value, spot: Spot) -> Result<Dev, ConfigError>
+    ensures { Reads (λ x. x) DevFits result
+        (faults dev spot (view item.now))
+        (dev_of (keys_of (Some (view item.now)))) }
+{
+    let table = table_of(item, spot)?;
+    let port = integer_at(table, "port", PORT_ID, spot.at_row(41))?;
+    let irq = integer_at(table, "irq", INTERRUPT, spot.at_row(42))?;
+    only_known(table, &["port", "irq"], spot)?;
+    Ok(Dev {
+        port: port as u8,
+        irq: irq as u16,
+    })
+}
+
+#[tactic(auto, unfolding(crate::specs::KeyTable::devs))]
+pub(crate) fn read_devs(table: &Table, spot: Spot) -> Result<ArrayVec<Dev, 16>, ConfigError>
+    ensures { Reads (λ v. v.items) (ListFits 0 16 DevFits) result
+        (or_none (get_member (codes "devs") (table_view table.now)) (faults devs spot))
+        (tables_of dev_of (get_member (codes "devs") (table_view table.now))) }
+{
+    let mut devs = ArrayVec::new();
+    let Some(item) = find(table, "devs") else {
+        return Ok(devs);
+    };
+    let items = items_of(item, 0, 16, spot)?;
+    for (j, item) in items.iter().enumerate() {
+        devs.push(read_dev(item, spot.in_j(40, j as u8))?);
+    }
+    Ok(devs)
+}

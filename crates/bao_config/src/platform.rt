@@ -1,0 +1,107 @@
+//! Readers of the platform's tables.
+ghost use Rattle.std.specs.Prelude.{Some, codes};
+ghost use Rattle.toml.specs.Data.{get_member};
+ghost use Rattle.toml.specs.View.{view, table_view};
+ghost use Rattle.bao_config.specs.Bounds.{IsWithin, entries};
+ghost use Rattle.bao_config.specs.Faults.{faults, or_shape, or_none};
+ghost use Rattle.bao_config.specs.KeyTable.{banks, platform_cores, port, ports, platform};
+ghost use Rattle.bao_config.specs.Spelled.{range_of, port_of, platform_of, numbers_of, tables_of, keys_of};
+ghost use Rattle.bao_config.specs.Data.{platform_data};
+ghost use Rattle.bao_config.specs.Fits.{ListFits, RangeFits, PortFits, PlatformFits};
+ghost use Rattle.bao_config.specs.Answer.{Reads};
+
+use crate::bounds::{BASE, ENTRIES, FRAME, INTERRUPT, PORT_ID};
+use crate::config::{Platform, PortPlace};
+use crate::error::{ConfigError, Spot};
+use crate::fields::{find, integer_at, integer_of, items_of, only_known, required, table_of};
+use crate::range::read_range;
+use arrayvec::ArrayVec;
+use bao_types::ByteRange;
+use toml::{Table, Value};
+
+#[tactic(auto, unfolding(crate::specs::KeyTable::banks))]
+fn read_banks(table: &Table, spot: Spot) -> Result<ArrayVec<ByteRange, 8>, ConfigError>
+    ensures { Reads (λ v. v.items) (ListFits 1 8 RangeFits) result
+        (or_shape spot (get_member (codes "banks") (table_view table.now)) (faults banks spot))
+        (tables_of range_of (get_member (codes "banks") (table_view table.now))) }
+{
+    let item = required(table, "banks", spot)?;
+    let items = items_of(item, 1, 8, spot)?;
+    let mut banks = ArrayVec::new();
+    for (i, item) in items.iter().enumerate() {
+        banks.push(read_range(item, 6, 7, spot.in_i(5, i as u8))?);
+    }
+    Ok(banks)
+}
+
+#[tactic(auto, unfolding(crate::specs::KeyTable::platform_cores))]
+fn read_cores(table: &Table, spot: Spot) -> Result<ArrayVec<u8, 8>, ConfigError>
+    ensures { Reads (λ v. v.items) (ListFits 1 8 (IsWithin entries)) result
+        (or_shape spot (get_member (codes "cores") (table_view table.now)) (faults platform_cores spot))
+        (numbers_of (get_member (codes "cores") (table_view table.now))) }
+{
+    let item = required(table, "cores", spot)?;
+    let items = items_of(item, 1, 8, spot)?;
+    let mut cores = ArrayVec::new();
+    for (i, item) in items.iter().enumerate() {
+        cores.push(integer_of(item, ENTRIES, spot.in_i(9, i as u8))? as u8);
+    }
+    Ok(cores)
+}
+
+#[tactic(auto, unfolding(crate::specs::KeyTable::port))]
+fn read_port(item: &Value, spot: Spot) -> Result<PortPlace, ConfigError>
+    ensures { Reads (λ x. x) PortFits result
+        (faults port spot (view item.now))
+        (port_of (keys_of (Some (view item.now)))) }
+{
+    let table = table_of(item, spot)?;
+    let id = integer_at(table, "id", PORT_ID, spot.at_row(14))?;
+    let base = integer_at(table, "base", BASE, spot.at_row(15))?;
+    let spi = integer_at(table, "spi", INTERRUPT, spot.at_row(16))?;
+    only_known(table, &["id", "base", "spi"], spot)?;
+    Ok(PortPlace {
+        id: id as u8,
+        base,
+        spi: spi as u16,
+    })
+}
+
+#[tactic(auto, unfolding(crate::specs::KeyTable::ports))]
+fn read_ports(table: &Table, spot: Spot) -> Result<ArrayVec<PortPlace, 16>, ConfigError>
+    ensures { Reads (λ v. v.items) (ListFits 0 16 PortFits) result
+        (or_none (get_member (codes "ports") (table_view table.now)) (faults ports spot))
+        (tables_of port_of (get_member (codes "ports") (table_view table.now))) }
+{
+    let mut ports = ArrayVec::new();
+    let Some(item) = find(table, "ports") else {
+        return Ok(ports);
+    };
+    let items = items_of(item, 0, 16, spot)?;
+    for (i, item) in items.iter().enumerate() {
+        ports.push(read_port(item, spot.in_i(13, i as u8))?);
+    }
+    Ok(ports)
+}
+
+#[tactic(auto, using(crate::proofs::Lists::is_first_append), unfolding(crate::specs::KeyTable::platform))]
+pub(crate) fn read_platform(item: &Value, spot: Spot) -> Result<Platform, ConfigError>
+    ensures { Reads platform_data PlatformFits result
+        (faults platform spot (view item.now))
+        (platform_of (keys_of (Some (view item.now)))) }
+{
+    let table = table_of(item, spot)?;
+    let banks = read_banks(table, spot.at_row(4))?;
+    let cores = read_cores(table, spot.at_row(8))?;
+    let gicd = integer_at(table, "gicd", FRAME, spot.at_row(10))?;
+    let gicr = integer_at(table, "gicr", FRAME, spot.at_row(11))?;
+    let ports = read_ports(table, spot.at_row(12))?;
+    only_known(table, &["banks", "cores", "gicd", "gicr", "ports"], spot)?;
+    Ok(Platform {
+        banks,
+        cores,
+        gicd,
+        gicr,
+        ports,
+    })
+}

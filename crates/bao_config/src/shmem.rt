@@ -1,0 +1,51 @@
+//! Readers of the shared memories.
+ghost use Rattle.std.specs.Prelude.{Some, codes};
+ghost use Rattle.toml.specs.Data.{get_member};
+ghost use Rattle.toml.specs.View.{view, table_view};
+ghost use Rattle.bao_config.specs.Faults.{faults, or_none};
+ghost use Rattle.bao_config.specs.KeyTable.{shmem, shmems};
+ghost use Rattle.bao_config.specs.Spelled.{shmem_of, tables_of, keys_of};
+ghost use Rattle.bao_config.specs.Fits.{ListFits, ShmemFits};
+ghost use Rattle.bao_config.specs.Answer.{Reads};
+
+use crate::bounds::{BASE, EVENTS, SIZE};
+use crate::config::Shmem;
+use crate::error::{ConfigError, Spot};
+use crate::fields::{find, integer_at, items_of, only_known, table_of};
+use arrayvec::ArrayVec;
+use bao_types::ByteRange;
+use toml::{Table, Value};
+
+#[tactic(auto, unfolding(crate::specs::KeyTable::shmem))]
+fn read_shmem(item: &Value, spot: Spot) -> Result<Shmem, ConfigError>
+    ensures { Reads (λ x. x) ShmemFits result
+        (faults shmem spot (view item.now))
+        (shmem_of (keys_of (Some (view item.now)))) }
+{
+    let table = table_of(item, spot)?;
+    let base = integer_at(table, "base", BASE, spot.at_row(22))?;
+    let size = integer_at(table, "size", SIZE, spot.at_row(23))?;
+    let events = integer_at(table, "events", EVENTS, spot.at_row(24))?;
+    only_known(table, &["base", "size", "events"], spot)?;
+    Ok(Shmem {
+        range: ByteRange { base, size },
+        events: events as u8,
+    })
+}
+
+#[tactic(auto, unfolding(crate::specs::KeyTable::shmems))]
+pub(crate) fn read_shmems(table: &Table, spot: Spot) -> Result<ArrayVec<Shmem, 8>, ConfigError>
+    ensures { Reads (λ v. v.items) (ListFits 0 8 ShmemFits) result
+        (or_none (get_member (codes "shmem") (table_view table.now)) (faults shmems spot))
+        (tables_of shmem_of (get_member (codes "shmem") (table_view table.now))) }
+{
+    let mut shmems = ArrayVec::new();
+    let Some(item) = find(table, "shmem") else {
+        return Ok(shmems);
+    };
+    let items = items_of(item, 0, 8, spot)?;
+    for (i, item) in items.iter().enumerate() {
+        shmems.push(read_shmem(item, spot.in_i(21, i as u8))?);
+    }
+    Ok(shmems)
+}
