@@ -130,19 +130,18 @@ pub quotient_high_high : (width n m : ℕ) → 0 < width → 2 ^ (width - 1) ≤
 quotient_high_high width n m some n_high n_below m_high m_below =
     let positive : 0 < 2 ^ (width - 1) = pow_pos (width - 1) in
     let below : suc (inverted width n) < 2 ^ width = omega arith in
-    rw
-    (
+    rw (
       as_signed_high width n some n_high n_below,
       as_signed_high width m some m_high m_below,
       magnitude width n n_below,
       magnitude width m m_below,
     )
     (
-      sym
-      (
-        mod-eq_of_lt
-        (quotient_below width (suc (inverted width n)) (suc (inverted width m)) below)
-      )
+    sym
+    (
+    mod-eq_of_lt
+    (quotient_below width (suc (inverted width n)) (suc (inverted width m)) below)
+    )
     )
 
 -- the signed number of 64 bits, as a cast gives it

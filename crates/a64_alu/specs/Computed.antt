@@ -52,8 +52,8 @@ computed (Extract wide rm imms rn rd) core =
 computed (LogicalShifted wide kind shift invert rm amount rn rd) core =
     with_logical core (width_of wide) kind rd
     (
-      combined kind (low_x core (width_of wide) rn)
-      (inverted_if invert (width_of wide) (shifted (width_of wide) shift (low_x core (width_of wide) rm) amount))
+    combined kind (low_x core (width_of wide) rn)
+    (inverted_if invert (width_of wide) (shifted (width_of wide) shift (low_x core (width_of wide) rm) amount))
     )
 computed (AddSubShifted wide subtract flags shift rm amount rn rd) core =
     with_sum core rd flags
@@ -66,20 +66,20 @@ computed (AddSubCarry wide subtract flags rm rn rd) core =
 computed (ConditionalCompare wide subtract operand condition rn nzcv) core =
     with_flags core
     (
-      if holds condition core.pstate then flags_of (total wide subtract (x_of core rn.0) (operand_of core operand) subtract)
-      else nzcv
+    if holds condition core.pstate then flags_of (total wide subtract (x_of core rn.0) (operand_of core operand) subtract)
+    else nzcv
     )
 computed (ConditionalSelect wide kind rm condition rn rd) core =
     with_x core rd.0
     (
-      if holds condition core.pstate then low_x core (width_of wide) rn
-      else changed (width_of wide) kind (low_x core (width_of wide) rm)
+    if holds condition core.pstate then low_x core (width_of wide) rn
+    else changed (width_of wide) kind (low_x core (width_of wide) rm)
     )
 computed (ThreeSources wide kind rm ra rn rd) core =
     with_x core rd.0
     (
-      product_of (width_of wide) kind (low_x core (width_of wide) ra) (low_x core (width_of wide) rn)
-      (low_x core (width_of wide) rm)
+    product_of (width_of wide) kind (low_x core (width_of wide) ra) (low_x core (width_of wide) rn)
+    (low_x core (width_of wide) rm)
     )
 computed (TwoSources wide kind rm rn rd) core =
     with_x core rd.0 (two_sources (width_of wide) kind (low_x core (width_of wide) rn) (low_x core (width_of wide) rm))

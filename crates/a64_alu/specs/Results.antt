@@ -29,6 +29,6 @@ abbrev pub with_x_and_flags : CoreData → Reg → ℕ → Bool → ℕ → Core
 with_x_and_flags core r value set flags = if set then with_x (with_flags core flags) r.0 value else with_x core r.0 value
 
 -- nothing has changed but general registers, stack pointers and flags; PC stays
-pub record IsFrame (old new : CoreData) : Type 0 where
+pub record ChangesOnlyResults (old new : CoreData) : Type 0 where
   pub others : new ≡ record old { x = new.x; sp0 = new.sp0; sp1 = new.sp1; pstate = new.pstate }
   pub rest_of_pstate : new.pstate % 2 ^ 28 ≡ old.pstate % 2 ^ 28

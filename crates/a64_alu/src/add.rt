@@ -3,7 +3,7 @@
 
 ghost use Rattle.std.specs.Prelude.{◌≡◌, ◌≤◌, ◌<◌, ◌^◌};
 ghost use Rattle.a64_decode.specs.Lawful.{IsReg};
-ghost use Rattle.a64_alu.specs.Results.{IsFrame};
+ghost use Rattle.a64_alu.specs.Results.{ChangesOnlyResults};
 ghost use Rattle.a64_alu.specs.Add.{total as total_of, flags_of as flags_of_sum, with_sum, with_sum_or_sp, number_of, extended as extended_as, extended_left as extended_left_of};
 
 use crate::number::{inverted, low, sign_extend};
@@ -32,7 +32,7 @@ pub(crate) fn flags_of(sum: &Sum) -> u32
 pub(crate) fn write_sum(core: &mut Core, rd: Reg, set: bool, sum: &Sum)
     requires { IsReg rd }
     ensures write { core.new ≡ with_sum core.old rd set sum.now }
-    ensures frame { IsFrame core.old core.new }
+    ensures frame { ChangesOnlyResults core.old core.new }
 {
     write_x_and_flags(core, rd, sum.value, set, flags_of(sum));
 }
@@ -41,7 +41,7 @@ pub(crate) fn write_sum(core: &mut Core, rd: Reg, set: bool, sum: &Sum)
 pub(crate) fn write_sum_or_sp(core: &mut Core, rd: Reg, set: bool, sum: &Sum)
     requires { IsReg rd }
     ensures write { core.new ≡ with_sum_or_sp core.old rd set sum.now }
-    ensures frame { IsFrame core.old core.new }
+    ensures frame { ChangesOnlyResults core.old core.new }
 {
     if set {
         write_sum(core, rd, true, sum);

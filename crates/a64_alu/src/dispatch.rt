@@ -1,6 +1,6 @@
 ghost use Rattle.std.specs.Prelude.{◌≡◌, IsTrue};
 ghost use Rattle.a64_decode.specs.Lawful.{IsLawful};
-ghost use Rattle.a64_alu.specs.Results.{IsFrame};
+ghost use Rattle.a64_alu.specs.Results.{ChangesOnlyResults};
 ghost use Rattle.a64_alu.specs.Computed.{is_data_processing, computed};
 ghost use Rattle.a64_alu.specs.Groups.{is_move, is_register_form, is_extended, is_conditional, is_source};
 
@@ -50,7 +50,7 @@ pub fn alu(core: &mut Core, instr: &Instr)
     requires kind { IsTrue (is_data_processing instr.now) }
     requires lawful { IsLawful instr.now }
     ensures meaning { core.new ≡ computed instr.now core.old }
-    ensures frame { IsFrame core.old core.new }
+    ensures frame { ChangesOnlyResults core.old core.new }
 {
     match *instr {
         Instr::Address { page, offset, rd } => {
@@ -93,7 +93,7 @@ fn move_fields(core: &mut Core, instr: &Instr)
     requires kind { IsTrue (is_move instr.now) }
     requires lawful { IsLawful instr.now }
     ensures meaning { core.new ≡ computed instr.now core.old }
-    ensures frame { IsFrame core.old core.new }
+    ensures frame { ChangesOnlyResults core.old core.new }
 {
     match *instr {
         Instr::MoveWide {
@@ -143,7 +143,7 @@ fn register_forms(core: &mut Core, instr: &Instr)
     requires kind { IsTrue (is_register_form instr.now) }
     requires lawful { IsLawful instr.now }
     ensures meaning { core.new ≡ computed instr.now core.old }
-    ensures frame { IsFrame core.old core.new }
+    ensures frame { ChangesOnlyResults core.old core.new }
 {
     match *instr {
         Instr::LogicalShifted {
@@ -187,7 +187,7 @@ fn extended_and_carry(core: &mut Core, instr: &Instr)
     requires kind { IsTrue (is_extended instr.now) }
     requires lawful { IsLawful instr.now }
     ensures meaning { core.new ≡ computed instr.now core.old }
-    ensures frame { IsFrame core.old core.new }
+    ensures frame { ChangesOnlyResults core.old core.new }
 {
     match *instr {
         Instr::AddSubExtended {
@@ -226,7 +226,7 @@ fn conditional(core: &mut Core, instr: &Instr)
     requires kind { IsTrue (is_conditional instr.now) }
     requires lawful { IsLawful instr.now }
     ensures meaning { core.new ≡ computed instr.now core.old }
-    ensures frame { IsFrame core.old core.new }
+    ensures frame { ChangesOnlyResults core.old core.new }
 {
     match *instr {
         Instr::ConditionalCompare {
@@ -271,7 +271,7 @@ fn sources(core: &mut Core, instr: &Instr)
     requires kind { IsTrue (is_source instr.now) }
     requires lawful { IsLawful instr.now }
     ensures meaning { core.new ≡ computed instr.now core.old }
-    ensures frame { IsFrame core.old core.new }
+    ensures frame { ChangesOnlyResults core.old core.new }
 {
     match *instr {
         Instr::ThreeSources {
@@ -284,7 +284,13 @@ fn sources(core: &mut Core, instr: &Instr)
         } => {
             let width = width(wide);
             let added = low_x(core, width, ra);
-            let value = product(width, kind, added, low_x(core, width, rn), low_x(core, width, rm));
+            let value = product(
+                width,
+                kind,
+                added,
+                low_x(core, width, rn),
+                low_x(core, width, rm),
+            );
             write_x(core, rd, value);
         }
         Instr::TwoSources {

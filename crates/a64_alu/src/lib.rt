@@ -7,6 +7,8 @@
 pub use dispatch::{alu, is_alu};
 
 mod add;
+#[cfg(test)]
+mod cases;
 mod condition;
 mod dispatch;
 mod logical;
@@ -17,3 +19,5 @@ mod quotient;
 mod result;
 mod reversal;
 mod shift;
+#[cfg(test)]
+mod tests;

@@ -3,7 +3,7 @@
 
 ghost use Rattle.std.specs.Prelude.{◌≡◌, ◌≤◌, ◌<◌, ◌^◌};
 ghost use Rattle.a64_decode.specs.Lawful.{IsReg};
-ghost use Rattle.a64_alu.specs.Results.{IsFrame};
+ghost use Rattle.a64_alu.specs.Results.{ChangesOnlyResults};
 ghost use Rattle.a64_alu.specs.Logical.{combined as combined_by, sets_flags as sets_flags_of, logical_flags as logical_flags_of, with_logical, with_logical_or_sp, mask_of, inverted_if as inverted_where};
 
 use crate::number::inverted;
@@ -47,9 +47,15 @@ pub(crate) fn write_logical(core: &mut Core, width: u32, kind: LogicalKind, rd: 
     requires width { width ≤ 64 }
     requires reg { IsReg rd }
     ensures write { core.new ≡ with_logical core.old width kind rd value }
-    ensures frame { IsFrame core.old core.new }
+    ensures frame { ChangesOnlyResults core.old core.new }
 {
-    write_x_and_flags(core, rd, value, sets_flags(kind), logical_flags(width, value));
+    write_x_and_flags(
+        core,
+        rd,
+        value,
+        sets_flags(kind),
+        logical_flags(width, value),
+    );
 }
 
 /// The same, but without flags register 31 is SP.
@@ -64,7 +70,7 @@ pub(crate) fn write_logical_or_sp(
     requires width { width ≤ 64 }
     requires reg { IsReg rd }
     ensures write { core.new ≡ with_logical_or_sp core.old width kind rd value }
-    ensures frame { IsFrame core.old core.new }
+    ensures frame { ChangesOnlyResults core.old core.new }
 {
     if sets_flags(kind) {
         write_logical(core, width, kind, rd, value);
@@ -89,5 +95,9 @@ pub(crate) fn inverted_if(invert: bool, width: u32, value: u64) -> u64
     requires value { value < 2 ^ width }
     ensures { result ≡ inverted_where invert width value }
 {
-    if invert { inverted(width, value) } else { value }
+    if invert {
+        inverted(width, value)
+    } else {
+        value
+    }
 }

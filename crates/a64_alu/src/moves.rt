@@ -66,7 +66,14 @@ pub(crate) fn field_moved(
         let count = imms + 1 - immr;
         placed(width, kind, old, 0, count, low(value >> immr, count))
     } else {
-        placed(width, kind, old, width - immr, imms + 1, low(value, imms + 1))
+        placed(
+            width,
+            kind,
+            old,
+            width - immr,
+            imms + 1,
+            low(value, imms + 1),
+        )
     }
 }
 

@@ -19,13 +19,7 @@ pub(crate) fn two_sources(width: u32, kind: TwoSourceKind, n: u64, m: u64) -> u6
 {
     let amount = (m % width as u64) as u32;
     match kind {
-        TwoSourceKind::Udiv => {
-            if m == 0 {
-                0
-            } else {
-                n / m
-            }
-        }
+        TwoSourceKind::Udiv => { if m == 0 { 0 } else { n / m } }
         TwoSourceKind::Sdiv => {
             if m == 0 {
                 0

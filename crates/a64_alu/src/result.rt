@@ -3,7 +3,7 @@
 ghost use Rattle.std.specs.Prelude.{◌≡◌, ◌≤◌, ◌<◌, ◌^◌};
 ghost use Rattle.a64_decode.specs.Lawful.{IsReg};
 ghost use Rattle.a64_state.specs.Registers.{with_x};
-ghost use Rattle.a64_alu.specs.Results.{low_x as low_x_of, x_or_sp as x_or_sp_of, with_x_or_sp, nzcv as nzcv_of, with_flags, with_x_and_flags, IsFrame};
+ghost use Rattle.a64_alu.specs.Results.{low_x as low_x_of, x_or_sp as x_or_sp_of, with_x_or_sp, nzcv as nzcv_of, with_flags, with_x_and_flags, ChangesOnlyResults};
 
 use crate::number::low;
 use a64_decode::Reg;
@@ -35,7 +35,7 @@ pub(crate) fn x_or_sp(core: &Core, r: Reg) -> u64
 pub(crate) fn write_x(core: &mut Core, r: Reg, value: u64)
     requires { IsReg r }
     ensures write { core.new ≡ with_x core.old r.0 value }
-    ensures frame { IsFrame core.old core.new }
+    ensures frame { ChangesOnlyResults core.old core.new }
 {
     core.write_x(r.0, value);
 }
@@ -44,7 +44,7 @@ pub(crate) fn write_x(core: &mut Core, r: Reg, value: u64)
 pub(crate) fn write_x_or_sp(core: &mut Core, r: Reg, value: u64)
     requires { IsReg r }
     ensures write { core.new ≡ with_x_or_sp core.old r value }
-    ensures frame { IsFrame core.old core.new }
+    ensures frame { ChangesOnlyResults core.old core.new }
 {
     if r.0 == 31 {
         core.write_sp(value);
@@ -65,7 +65,7 @@ pub(crate) fn nzcv(n: bool, z: bool, c: bool, v: bool) -> u32
 pub(crate) fn write_flags(core: &mut Core, flags: u32)
     requires { flags < 16 }
     ensures write { core.new ≡ with_flags core.old flags }
-    ensures frame { IsFrame core.old core.new }
+    ensures frame { ChangesOnlyResults core.old core.new }
 {
     core.pstate = flags * (1 << 28) + core.pstate % (1 << 28);
 }
@@ -75,7 +75,7 @@ pub(crate) fn write_x_and_flags(core: &mut Core, r: Reg, value: u64, set: bool, 
     requires reg { IsReg r }
     requires flags { flags < 16 }
     ensures write { core.new ≡ with_x_and_flags core.old r value set flags }
-    ensures frame { IsFrame core.old core.new }
+    ensures frame { ChangesOnlyResults core.old core.new }
 {
     if set {
         write_flags(core, flags);

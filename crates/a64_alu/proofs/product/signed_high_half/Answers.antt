@@ -14,8 +14,7 @@ returns c =
     let wide_m : FitsSigned w128 c.cast_signed-2.result = record { sfits = omega (arith, fits_m.sfits) } in
     let fits : FitsSigned w128 (c.cast_signed.result *ℤ c.cast_signed-2.result) = search rules in
     let plain : c.cast_unsigned.result ≡ cast_unsigned w128 (c.cast_signed.result *ℤ c.cast_signed-2.result) =
-    rw
-    (
+    rw (
       to_z-of_z w64 c.cast_signed.result fits_n,
       to_z-of_z w64 c.cast_signed-2.result fits_m,
       to_z-of_z w128 c.cast_signed.result wide_n,
