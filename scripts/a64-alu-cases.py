@@ -89,7 +89,7 @@ def moves():
 def conditions():
     names = ("eq", "ne", "cs", "cc", "mi", "pl", "vs", "vc", "hi", "ls", "ge", "lt", "gt", "le", "al", "nv")
     for name in names:
-        for flags in (0, 2, 6, 9, 12):
+        for flags in (2, 6, 8, 9):
             yield f"csel x0, x1, x2, {name}", 1, 2, flags
     for r in "xw":
         for op in ("csinc", "csinv", "csneg"):
@@ -103,8 +103,7 @@ def conditions():
             yield f"{op} {r}1, #31, #10, lt", 31, 0, 9
 
 
-def sources():
-    values = (0, 1, ONES, 2**31, 2**63)
+def products():
     for r in "xw":
         for x1, x2 in ((0, 0), (ONES, ONES), (2**31, 2), (2**63, 2), (MANY, MANY)):
             yield f"madd {r}0, {r}1, {r}2, {r}3", x1, x2, 0
@@ -123,20 +122,24 @@ def sources():
                 (MANY, 2**31),
             ):
                 yield f"{op} {r}0, {r}1, {r}2", x1, x2, 0
-        for op in ("lsl", "lsr", "asr", "ror"):
-            for x2 in (0, 31, 32, 63, 64, ONES):
-                yield f"{op} {r}0, {r}1, {r}2", MANY, x2, 0
-        for op in ("rbit", "rev16", "rev", "clz", "cls"):
-            for x1 in values + (MANY, 2**31 - 1, 2**63 - 1, 0xFFFF_FFFF_0000_0001):
-                yield f"{op} {r}0, {r}1", x1, 0, 0
-    for x1 in (1, MANY):
-        yield "rev32 x0, x1", x1, 0, 0
     for op in ("smaddl", "smsubl", "umaddl", "umsubl"):
         for x1, x2 in ((2**31, 2**31), (WORD, WORD), (2**31 - 1, 2**31), (MANY, 2**32 + 3)):
             yield f"{op} x0, w1, w2, x3", x1, x2, 0
     for op in ("smulh", "umulh"):
         for x1, x2 in ((ONES, ONES), (2**63, 2**63), (2**63, 2), (1, ONES), (MANY, MANY)):
             yield f"{op} x0, x1, x2", x1, x2, 0
+
+
+def reversals():
+    for r in "xw":
+        for op in ("lsl", "lsr", "asr", "ror"):
+            for x2 in (31, 32, 63, ONES):
+                yield f"{op} {r}0, {r}1, {r}2", MANY, x2, 0
+        for op in ("rbit", "rev16", "rev", "clz", "cls"):
+            for x1 in (0, 1, ONES, 2**31, 2**63, MANY):
+                yield f"{op} {r}0, {r}1", x1, 0, 0
+    for x1 in (1, MANY):
+        yield "rev32 x0, x1", x1, 0, 0
 
 
 def special():
@@ -170,7 +173,8 @@ TABLES = {
     "LOGIC": logic,
     "MOVES": moves,
     "CONDITIONS": conditions,
-    "SOURCES": sources,
+    "PRODUCTS": products,
+    "REVERSALS": reversals,
     "SPECIAL": special,
 }
 
@@ -227,11 +231,11 @@ def place_of(sp):
 def main():
     print("//! Written by scripts/a64-alu-cases.py: what each instruction does when qemu-aarch64 runs it.")
     print()
-    print("/// An instruction, its word, x1 and x2 and the flags before it, and x0, SP and the flags after it.")
-    print("pub(crate) type Row = (&'static str, u32, u64, u64, u32, u64, u64, u32);")
-    print("\n/// x0, x3 and SP before each instruction.")
+    print("/// An instruction's word, x1, x2 and the flags before it, and x0, SP and the flags after it.")
+    print("pub(crate) type Row = (u32, u64, u64, u32, u64, u64, u32);")
+    print("\n// x0, x3 and SP before each instruction.")
     for name, number in (("OLD", OLD), ("ADDED", ADDED), ("STACK", STACK)):
-        print(f"pub(crate) const {name}: u64 = {hexadecimal(number)};")
+        print(f"pub(crate) const {name}: u64 = {hexadecimal(number)};\n")
     for name, table in TABLES.items():
         cases = list(table())
         with tempfile.TemporaryDirectory() as room:
@@ -239,15 +243,16 @@ def main():
         assert len(rows) == len(cases)
         cells = []
         for (text, x1, x2, flags), (x0, sp, after, word) in zip(cases, rows):
-            before = (f'"{text}"', hexadecimal(word), hexadecimal(x1), hexadecimal(x2), str(flags))
-            cells.append(before + (hexadecimal(x0), place_of(sp), str(after >> 28)))
-        heads = ("// shows", "word", "x1 before", "x2 before", "flags", "x0 after", "SP after", "flags after")
-        widths = [max(map(len, column)) for column in zip(*cells, heads[:-1] + ("",))]
-        print(f"\n#[rattlefmt::skip]\npub(crate) const {name}: [Row; {len(rows)}] = [")
+            before = (hexadecimal(word), hexadecimal(x1), hexadecimal(x2), str(flags))
+            cells.append((text, before + (hexadecimal(x0), place_of(sp), str(after >> 28))))
+        heads = ("// word", "x1 before", "x2 before", "flags", "x0 after", "SP after", "flags after")
+        widths = [max(map(len, column)) for column in zip(heads, *(row for _, row in cells))]
+        print(f"#[rattlefmt::skip]\npub(crate) const {name}: [Row; {len(rows)}] = [")
         print("    " + "  ".join(head.ljust(width) for head, width in zip(heads, widths)))
-        for row in cells:
-            print("    (" + " ".join(f"{cell},".ljust(width + 1) for cell, width in zip(row[:-1], widths)) + f" {row[-1]}),")
-        print("];")
+        for text, row in cells:
+            aligned = (f"{cell},".ljust(width + 1) for cell, width in zip(row[:-1], widths))
+            print("    (" + " ".join(aligned) + f" {row[-1]}), // {text}")
+        print("];" if name == "SPECIAL" else "];\n")
 
 
 main()

@@ -1,4 +1,6 @@
-use crate::cases::{ADDED, ADDITIONS, CONDITIONS, LOGIC, MOVES, OLD, Row, SOURCES, SPECIAL, STACK};
+use crate::cases::{
+    ADDED, ADDITIONS, CONDITIONS, LOGIC, MOVES, OLD, PRODUCTS, REVERSALS, Row, SPECIAL, STACK,
+};
 use crate::result::write_flags;
 use crate::{alu, is_alu};
 use a64_decode::decode;
@@ -7,8 +9,8 @@ use std::process::Abort;
 
 /// The instruction does what the row says to x0, SP and the flags, and nothing else.
 fn agrees(rt: &impl Abort, row: Row) {
-    let (shows, word, x1, x2, flags, x0, sp, flags_after) = row;
-    assert!(rt; flags < 16 && flags_after < 16, "{shows}");
+    let (word, x1, x2, flags, x0, sp, flags_after) = row;
+    assert!(rt; flags < 16 && flags_after < 16, "{word:08X}");
     let mut core = Core::reset(0);
     core.write_x(0, OLD);
     core.write_x(1, x1);
@@ -22,12 +24,12 @@ fn agrees(rt: &impl Abort, row: Row) {
     write_flags(&mut expected, flags_after);
 
     let instr = decode(word);
-    assert!(rt; is_alu(&instr), "{shows}");
+    assert!(rt; is_alu(&instr), "{word:08X}");
     alu(&mut core, &instr);
-    assert_eq!(rt; core.read_x(0), x0, "{shows}");
-    assert_eq!(rt; core.read_sp(), sp, "{shows}");
-    assert_eq!(rt; core.pstate / pstate::V, flags_after, "{shows}");
-    assert!(rt; core == expected, "{shows}");
+    assert_eq!(rt; core.read_x(0), x0, "{word:08X}");
+    assert_eq!(rt; core.read_sp(), sp, "{word:08X}");
+    assert_eq!(rt; core.pstate / pstate::V, flags_after, "{word:08X}");
+    assert!(rt; core == expected, "{word:08X}");
 }
 
 #[test]
@@ -59,8 +61,15 @@ fn conditions(rt: HostRuntime) {
 }
 
 #[test]
-fn products_quotients_and_reversals(rt: HostRuntime) {
-    for row in SOURCES {
+fn products_and_quotients(rt: HostRuntime) {
+    for row in PRODUCTS {
+        agrees(&rt, row);
+    }
+}
+
+#[test]
+fn shifts_and_reversals(rt: HostRuntime) {
+    for row in REVERSALS {
         agrees(&rt, row);
     }
 }
