@@ -1,8 +1,10 @@
+//! From an instruction to what it does: each function does some rows of the table and leaves the rest to the next.
+
 ghost use Rattle.std.specs.Prelude.{◌≡◌, IsTrue};
 ghost use Rattle.a64_decode.specs.Lawful.{IsLawful};
 ghost use Rattle.a64_alu.specs.Results.{ChangesOnlyResults};
 ghost use Rattle.a64_alu.specs.Computed.{is_data_processing, computed};
-ghost use Rattle.a64_alu.specs.Groups.{is_move, is_register_form, is_extended, is_conditional, is_source};
+ghost use Rattle.a64_alu.specs.Groups.{is_move, is_extract, is_register_form, is_extended, is_conditional, is_product, is_source};
 
 use crate::add::{extended_left, flags_of, number, total, write_sum, write_sum_or_sp};
 use crate::condition::{changed, holds, operand_value};
@@ -83,13 +85,13 @@ pub fn alu(core: &mut Core, instr: &Instr)
             let value = combined(kind, low_x(core, width, rn), mask);
             write_logical_or_sp(core, width, kind, rd, value);
         }
-        _ => move_fields(core, instr),
+        _ => move_parts(core, instr),
     }
 }
 
-/// The wide moves and the moves of fields, and what [`register_forms`] does.
+/// Moves of numbers and fields, and the rows behind them.
 #[tactic(auto, unfolding(crate::specs::Computed::computed))]
-fn move_fields(core: &mut Core, instr: &Instr)
+fn move_parts(core: &mut Core, instr: &Instr)
     requires kind { IsTrue (is_move instr.now) }
     requires lawful { IsLawful instr.now }
     ensures meaning { core.new ≡ computed instr.now core.old }
@@ -121,6 +123,19 @@ fn move_fields(core: &mut Core, instr: &Instr)
             let result = field_moved(width, kind, immr as u32, imms as u32, old, value);
             write_x(core, rd, result);
         }
+        _ => extract(core, instr),
+    }
+}
+
+/// A part of two registers, and the rows behind it.
+#[tactic(auto, unfolding(crate::specs::Computed::computed))]
+fn extract(core: &mut Core, instr: &Instr)
+    requires kind { IsTrue (is_extract instr.now) }
+    requires lawful { IsLawful instr.now }
+    ensures meaning { core.new ≡ computed instr.now core.old }
+    ensures frame { ChangesOnlyResults core.old core.new }
+{
+    match *instr {
         Instr::Extract {
             wide,
             rm,
@@ -137,7 +152,7 @@ fn move_fields(core: &mut Core, instr: &Instr)
     }
 }
 
-/// Logic and sums of registers, and what [`sources`] does.
+/// Logic and sums of shifted registers, and the rows behind them.
 #[tactic(auto, unfolding(crate::specs::Computed::computed))]
 fn register_forms(core: &mut Core, instr: &Instr)
     requires kind { IsTrue (is_register_form instr.now) }
@@ -181,7 +196,7 @@ fn register_forms(core: &mut Core, instr: &Instr)
     }
 }
 
-/// Sums of extended registers and with the carry flag, and what [`sources`] does.
+/// Sums of extended registers and with the carry flag, and the rows behind them.
 #[tactic(auto, unfolding(crate::specs::Computed::computed))]
 fn extended_and_carry(core: &mut Core, instr: &Instr)
     requires kind { IsTrue (is_extended instr.now) }
@@ -220,7 +235,7 @@ fn extended_and_carry(core: &mut Core, instr: &Instr)
     }
 }
 
-/// Compares and selects under a condition, and what [`sources`] does.
+/// Compares and selects under a condition, and the rows behind them.
 #[tactic(auto, unfolding(crate::specs::Computed::computed))]
 fn conditional(core: &mut Core, instr: &Instr)
     requires kind { IsTrue (is_conditional instr.now) }
@@ -261,14 +276,14 @@ fn conditional(core: &mut Core, instr: &Instr)
             };
             write_x(core, rd, value);
         }
-        _ => sources(core, instr),
+        _ => products(core, instr),
     }
 }
 
-/// Products, quotients, shifts by registers, reversals and counts.
+/// Products, and the rows behind them.
 #[tactic(auto, unfolding(crate::specs::Computed::computed))]
-fn sources(core: &mut Core, instr: &Instr)
-    requires kind { IsTrue (is_source instr.now) }
+fn products(core: &mut Core, instr: &Instr)
+    requires kind { IsTrue (is_product instr.now) }
     requires lawful { IsLawful instr.now }
     ensures meaning { core.new ≡ computed instr.now core.old }
     ensures frame { ChangesOnlyResults core.old core.new }
@@ -293,6 +308,19 @@ fn sources(core: &mut Core, instr: &Instr)
             );
             write_x(core, rd, value);
         }
+        _ => sources(core, instr),
+    }
+}
+
+/// Quotients, shifts by registers, reversals and counts.
+#[tactic(auto, unfolding(crate::specs::Computed::computed))]
+fn sources(core: &mut Core, instr: &Instr)
+    requires kind { IsTrue (is_source instr.now) }
+    requires lawful { IsLawful instr.now }
+    ensures meaning { core.new ≡ computed instr.now core.old }
+    ensures frame { ChangesOnlyResults core.old core.new }
+{
+    match *instr {
         Instr::TwoSources {
             wide,
             kind,
