@@ -1,5 +1,5 @@
 -- Signed numbers and their bits.
-use Rattle.std.proofs.Common.{◌≡◌, ◌<◌, ◌≤◌, ℕ, zero, suc, ◌+◌, ◌-◌, ◌*◌, ◌/◌, ◌%◌, ◌^◌, true, false, leb, ℤ, pos, negsuc, ◌+ℤ◌, ◌-ℤ◌, neg_ℤ, unsigned_abs, refl, sym, ap, ◌∙◌, arith, ◌⊎◌, inl, inr}
+use Rattle.std.proofs.Common.{◌≡◌, ◌<◌, ◌≤◌, ℕ, zero, suc, ◌+◌, ◌-◌, ◌*◌, ◌/◌, ◌%◌, ◌^◌, ℤ, pos, negsuc, ◌+ℤ◌, ◌-ℤ◌, neg_ℤ, unsigned_abs, refl, sym, ap, ◌∙◌, arith, inl, inr}
 use Rattle.std.specs.Prelude.{int_div}
 use Rattle.std.proofs.lemmas.Nat.{pow_pos, pow-add, leading_length}
 use Rattle.std.proofs.lemmas.Bool.Decides.{leb_tells}
@@ -7,11 +7,10 @@ use Rattle.std.proofs.lemmas.Int.{ints, int_rem_euclid_is}
 use Rattle.std.proofs.Math.Nat.{mod-eq_of_lt, mod-lt, mod_self, sub-zero, div-le_self, mul_assoc}
 use Rattle.std.proofs.Math.Pow.{pow_mono, shr_mod}
 use Rattle.std.proofs.lemmas.Bool.{cases_lt}
-use Rattle.std.specs.Int.{int_rem_euclid, int_shr, cast_unsigned, cast_signed, w64, w128}
+use Rattle.std.specs.Int.{int_shr, cast_unsigned, cast_signed, w64, w128}
 use Rattle.std.specs.Int.Count.{count_leading_zeros}
 use Rattle.std.specs.Int.RustNames.{FitsSigned}
 use Rattle.bao_types.specs.Bits.{field}
-use Rattle.bao_types.specs.Sum.{signed}
 use Rattle.a64_alu.specs.Numbers.{modulo, as_signed, inverted}
 use Rattle.a64_alu.proofs.Bits.{shorter}
 

@@ -1,15 +1,14 @@
 -- Addition and subtraction (ARM DDI 0487, "AddWithCarry" and "ExtendReg").
-use Rattle.std.specs.Prelude.{ℕ, ◌+◌, ◌*◌, ◌/◌, ◌%◌, ◌^◌, Bool, true, if◌then◌else◌}
+use Rattle.std.specs.Prelude.{ℕ, ◌*◌, ◌%◌, ◌^◌, Bool, true, if◌then◌else◌}
 use Rattle.bao_types.specs.Sum.{add_carry_of}
 use Rattle.bao_types.specs.declared.sum.Sum.{Sum}
 use Rattle.a64_state.specs.Core.{CoreData}
-use Rattle.a64_state.specs.Registers.{with_x}
 use Rattle.a64_decode.specs.Operands.{sign_extend}
 use Rattle.a64_decode.specs.declared.operand.Reg.{Reg}
 use Rattle.a64_decode.specs.declared.operand.Extend.{Extend}
 use Rattle.a64_decode.specs.declared.operand.Extend.TheVariants.{Uxtb, Uxth, Uxtw, Uxtx, Sxtb, Sxth, Sxtw, Sxtx}
 use Rattle.a64_alu.specs.Numbers.{inverted}
-use Rattle.a64_alu.specs.Results.{with_x_or_sp, nzcv, with_flags, with_x_and_flags}
+use Rattle.a64_alu.specs.Results.{with_x_or_sp, nzcv, with_x_and_flags}
 
 -- x + y + carry, or x - y - 1 + carry: a subtraction adds the inverted number
 unfoldable pub total : Bool → Bool → ℕ → ℕ → Bool → Sum

@@ -1,5 +1,5 @@
 -- The data processing instructions (ARM DDI 0487, "A64 Base Instructions"): an equation a row of the table of words.
-use Rattle.std.specs.Prelude.{ℕ, ◌*◌, ◌%◌, ◌^◌, Bool, true, false, ◌==◌, if◌then◌else◌}
+use Rattle.std.specs.Prelude.{◌*◌, Bool, true, false, ◌==◌, if◌then◌else◌}
 use Rattle.a64_state.specs.Core.{CoreData}
 use Rattle.a64_state.specs.Pstate.{carry_flag}
 use Rattle.a64_state.specs.Registers.{x_of, with_x}

@@ -1,6 +1,5 @@
 -- Conditions (ARM DDI 0487, "ConditionHolds"), and what depends on them.
-use Rattle.std.specs.Prelude.{ℕ, ◌+◌, ◌-◌, ◌%◌, ◌^◌, Bool, true, not, ◌&&◌, ◌==◌, if◌then◌else◌}
-use Rattle.bao_types.specs.declared.sum.Sum.{Sum}
+use Rattle.std.specs.Prelude.{ℕ, ◌+◌, ◌-◌, ◌%◌, ◌^◌, Bool, true, not, ◌&&◌, ◌==◌}
 use Rattle.a64_state.specs.Core.{CoreData}
 use Rattle.a64_state.specs.Pstate.{negative_flag, zero_flag, carry_flag, overflow_flag}
 use Rattle.a64_state.specs.Registers.{x_of}

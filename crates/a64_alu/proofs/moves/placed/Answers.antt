@@ -1,4 +1,3 @@
-use Rattle.std.proofs.Common.{arith}
 use Rattle.a64_alu.specs.Moves.{placed}
 use Rattle.a64_alu.proofs.Bits.{shorter}
 use Rattle.a64_alu.proofs.moves.placed.Goals as goal

@@ -1,4 +1,4 @@
-use Rattle.std.proofs.Common.{◌+◌, ◌*◌, ◌^◌, ◌%◌, ◌≡◌, arith}
+use Rattle.std.proofs.Common.{arith}
 use Rattle.std.proofs.lemmas.Nat.{shl_whole, shl_below}
 use Rattle.std.proofs.Math.Nat.{add_comm}
 use Rattle.a64_alu.proofs.number.at.Goals as goal

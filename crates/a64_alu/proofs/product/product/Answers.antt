@@ -1,4 +1,4 @@
-use Rattle.std.proofs.Common.{◌≡◌, ◌+◌, ◌*◌, ◌%◌, ◌^◌, ◌∙◌, ap, sym, arith}
+use Rattle.std.proofs.Common.{◌*◌, ◌∙◌, sym}
 use Rattle.a64_alu.specs.Products.{product_of}
 use Rattle.a64_alu.proofs.Bits.{sum_shorter}
 use Rattle.a64_alu.proofs.Signs.{modulo_difference}

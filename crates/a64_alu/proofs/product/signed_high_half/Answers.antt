@@ -1,8 +1,7 @@
-use Rattle.std.proofs.Common.{◌≡◌, ◌*◌, ◌/◌, ◌%◌, ◌^◌, ◌<◌, ℤ, ◌*ℤ◌, rules, sym, arith}
-use Rattle.std.specs.Int.{w64, w128, cast_unsigned, cast_signed}
+use Rattle.std.proofs.Common.{◌≡◌, ◌*ℤ◌, rules, arith}
+use Rattle.std.specs.Int.{w64, w128, cast_unsigned}
 use Rattle.std.specs.Int.RustNames.{FitsSigned}
-use Rattle.std.proofs.lemmas.Int.{to_z-of_z, fits_signed_mul}
-use Rattle.a64_alu.specs.Numbers.{modulo, as_signed}
+use Rattle.std.proofs.lemmas.Int.{to_z-of_z}
 use Rattle.a64_alu.proofs.Signs.{as_signed_is, high_half}
 use Rattle.a64_alu.proofs.product.signed_high_half.Goals as goal
 

@@ -1,6 +1,6 @@
-use Rattle.std.proofs.Common.{◌≡◌, ◌≤◌, ◌<◌, ◌-◌, ◌^◌, ◌/◌, sym, refl, arith}
+use Rattle.std.proofs.Common.{◌≤◌, ◌<◌, ◌-◌, ◌^◌, arith}
 use Rattle.std.proofs.lemmas.Nat.{one_shl}
-use Rattle.a64_alu.proofs.Signs.{as_signed_high, as_signed_low, quotient_high_high, quotient_high_low, quotient_low_high, quotient_low_low}
+use Rattle.a64_alu.proofs.Signs.{quotient_high_high, quotient_high_low, quotient_low_high, quotient_low_low}
 use Rattle.a64_alu.proofs.quotient.signed_quotient.Goals as goal
 
 pub returns-in-true-true : goal.returns-in-true-true
