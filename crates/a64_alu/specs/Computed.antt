@@ -1,5 +1,5 @@
 -- The data processing instructions (ARM DDI 0487, "A64 Base Instructions"): an equation a row of the table of words.
-use Rattle.std.specs.Prelude.{◌*◌, Bool, true, false, ◌==◌, if◌then◌else◌}
+use Rattle.std.specs.Prelude.{ℕ, ◌*◌, Bool, true, false, ◌==◌, if◌then◌else◌}
 use Rattle.a64_state.specs.Core.{CoreData}
 use Rattle.a64_state.specs.Pstate.{carry_flag}
 use Rattle.a64_state.specs.Registers.{x_of, with_x}
@@ -41,48 +41,44 @@ computed (Address page offset rd) core = with_x core rd.0 (address_of page core.
 computed (AddSubImmediate wide subtract flags shift imm12 rn rd) core =
     with_sum_or_sp core rd flags (total wide subtract (x_or_sp core rn) (number_of shift imm12) subtract)
 computed (LogicalImmediate wide kind n immr imms rn rd) core =
-    with_logical_or_sp core (width_of wide) kind rd (combined kind (low_x core (width_of wide) rn) (mask_of n immr imms wide))
+    let width : ℕ = width_of wide in
+    with_logical_or_sp core width kind rd (combined kind (low_x core width rn) (mask_of n immr imms wide))
 computed (MoveWide wide kind hw imm16 rd) core =
-    with_x core rd.0 (moved (width_of wide) kind (low_x core (width_of wide) rd) (16 * hw) imm16)
+    let width : ℕ = width_of wide in
+    with_x core rd.0 (moved width kind (low_x core width rd) (16 * hw) imm16)
 computed (Bitfield wide kind immr imms rn rd) core =
-    with_x core rd.0
-    (field_moved (width_of wide) kind immr imms (low_x core (width_of wide) rd) (low_x core (width_of wide) rn))
+    let width : ℕ = width_of wide in
+    with_x core rd.0 (field_moved width kind immr imms (low_x core width rd) (low_x core width rn))
 computed (Extract wide rm imms rn rd) core =
-    with_x core rd.0 (extracted (width_of wide) (low_x core (width_of wide) rn) (low_x core (width_of wide) rm) imms)
+    let width : ℕ = width_of wide in
+    with_x core rd.0 (extracted width (low_x core width rn) (low_x core width rm) imms)
 computed (LogicalShifted wide kind shift invert rm amount rn rd) core =
-    with_logical core (width_of wide) kind rd
-    (
-    combined kind (low_x core (width_of wide) rn)
-    (inverted_if invert (width_of wide) (shifted (width_of wide) shift (low_x core (width_of wide) rm) amount))
-    )
+    let width : ℕ = width_of wide in
+    let operand : ℕ = inverted_if invert width (shifted width shift (low_x core width rm) amount) in
+    with_logical core width kind rd (combined kind (low_x core width rn) operand)
 computed (AddSubShifted wide subtract flags shift rm amount rn rd) core =
-    with_sum core rd flags
-    (total wide subtract (x_of core rn.0) (shifted (width_of wide) shift (low_x core (width_of wide) rm) amount) subtract)
+    let width : ℕ = width_of wide in
+    let operand : ℕ = shifted width shift (low_x core width rm) amount in
+    with_sum core rd flags (total wide subtract (x_of core rn.0) operand subtract)
 computed (AddSubExtended wide subtract flags rm extend amount rn rd) core =
-    with_sum_or_sp core rd flags
-    (total wide subtract (x_or_sp core rn) (extended_left extend (x_of core rm.0) amount) subtract)
+    let operand : ℕ = extended_left extend (x_of core rm.0) amount in
+    with_sum_or_sp core rd flags (total wide subtract (x_or_sp core rn) operand subtract)
 computed (AddSubCarry wide subtract flags rm rn rd) core =
     with_sum core rd flags (total wide subtract (x_of core rn.0) (x_of core rm.0) (carry_flag core.pstate == 1))
 computed (ConditionalCompare wide subtract operand condition rn nzcv) core =
-    with_flags core
-    (
-    if holds condition core.pstate then flags_of (total wide subtract (x_of core rn.0) (operand_of core operand) subtract)
-    else nzcv
-    )
+    let compared : ℕ = flags_of (total wide subtract (x_of core rn.0) (operand_of core operand) subtract) in
+    with_flags core (if holds condition core.pstate then compared else nzcv)
 computed (ConditionalSelect wide kind rm condition rn rd) core =
-    with_x core rd.0
-    (
-    if holds condition core.pstate then low_x core (width_of wide) rn
-    else changed (width_of wide) kind (low_x core (width_of wide) rm)
-    )
+    let width : ℕ = width_of wide in
+    let other : ℕ = changed width kind (low_x core width rm) in
+    with_x core rd.0 (if holds condition core.pstate then low_x core width rn else other)
 computed (ThreeSources wide kind rm ra rn rd) core =
-    with_x core rd.0
-    (
-    product_of (width_of wide) kind (low_x core (width_of wide) ra) (low_x core (width_of wide) rn)
-    (low_x core (width_of wide) rm)
-    )
+    let width : ℕ = width_of wide in
+    with_x core rd.0 (product_of width kind (low_x core width ra) (low_x core width rn) (low_x core width rm))
 computed (TwoSources wide kind rm rn rd) core =
-    with_x core rd.0 (two_sources (width_of wide) kind (low_x core (width_of wide) rn) (low_x core (width_of wide) rm))
+    let width : ℕ = width_of wide in
+    with_x core rd.0 (two_sources width kind (low_x core width rn) (low_x core width rm))
 computed (OneSource wide kind rn rd) core =
-    with_x core rd.0 (one_source (width_of wide) kind (low_x core (width_of wide) rn))
+    let width : ℕ = width_of wide in
+    with_x core rd.0 (one_source width kind (low_x core width rn))
 computed _ core = core

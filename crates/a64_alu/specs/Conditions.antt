@@ -11,6 +11,7 @@ use Rattle.a64_decode.specs.declared.operand.SelectKind.{SelectKind}
 use Rattle.a64_decode.specs.declared.operand.SelectKind.TheVariants.{Csel, Csinc, Csinv, Csneg}
 use Rattle.a64_alu.specs.Numbers.{inverted}
 
+-- whether a condition holds by the flags in PSTATE
 unfoldable pub holds : Condition → ℕ → Bool
 holds condition.Eq pstate = zero_flag pstate == 1
 holds condition.Ne pstate = zero_flag pstate == 0

@@ -8,12 +8,14 @@ use Rattle.a64_decode.specs.declared.operand.LogicalKind.TheVariants.{And, Orr, 
 use Rattle.a64_alu.specs.Numbers.{inverted}
 use Rattle.a64_alu.specs.Results.{with_x_or_sp, nzcv, with_x_and_flags}
 
+-- bit by bit
 unfoldable pub combined : LogicalKind → ℕ → ℕ → ℕ
 combined And x y = bit_and x y
 combined Orr x y = bit_or x y
 combined Eor x y = bit_xor x y
 combined Ands x y = bit_and x y
 
+-- the one operation that sets the flags
 abbrev pub sets_flags : LogicalKind → Bool
 sets_flags Ands = true
 sets_flags _ = false

@@ -36,13 +36,8 @@ placed width Ubfm old place count part = part * 2 ^ place
 -- bits `imms` down to the field's lowest go to its place
 unfoldable pub field_moved : ℕ → BitfieldKind → ℕ → ℕ → ℕ → ℕ → ℕ
 field_moved width kind immr imms old value =
-    placed
-    width
-    kind
-    old
-    (field_place width immr imms)
-    (imms + 1 - field_low immr imms)
-    (field value imms (field_low immr imms))
+    let low : ℕ = field_low immr imms in
+    placed width kind old (field_place width immr imms) (imms + 1 - low) (field value imms low)
 
 -- the lowest bits of two numbers, one above the other, shifted right
 unfoldable pub extracted : ℕ → ℕ → ℕ → ℕ → ℕ

@@ -12,6 +12,7 @@ use a64_decode::{LogicalKind, Reg};
 use a64_state::Core;
 use bao_types::bitmask;
 
+/// Two numbers, combined bit by bit.
 pub(crate) fn combined(kind: LogicalKind, x: u64, y: u64) -> u64
     ensures { result ≡ combined_by kind x y }
 {
@@ -22,6 +23,7 @@ pub(crate) fn combined(kind: LogicalKind, x: u64, y: u64) -> u64
     }
 }
 
+/// Whether the operation sets the flags.
 fn sets_flags(kind: LogicalKind) -> bool
     ensures { result ≡ sets_flags_of kind }
 {
