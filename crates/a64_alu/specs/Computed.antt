@@ -1,0 +1,84 @@
+-- The data processing instructions (ARM DDI 0487, "A64 Base Instructions"): an equation a row of the table of words.
+use Rattle.std.specs.Prelude.{ℕ, ◌*◌, Bool, true, false, ◌==◌, if◌then◌else◌}
+use Rattle.a64_state.specs.Core.{CoreData}
+use Rattle.a64_state.specs.Pstate.{carry_flag}
+use Rattle.a64_state.specs.Registers.{x_of, with_x}
+use Rattle.a64_decode.specs.Lawful.{width_of}
+use Rattle.a64_decode.specs.declared.instr.Instr.{Instr}
+use Rattle.a64_decode.specs.declared.instr.Instr.TheVariants.{Address, AddSubImmediate, LogicalImmediate, MoveWide, Bitfield, Extract, LogicalShifted, AddSubShifted, AddSubExtended, AddSubCarry, ConditionalCompare, ConditionalSelect, ThreeSources, TwoSources, OneSource}
+use Rattle.a64_alu.specs.Results.{low_x, x_or_sp, with_flags}
+use Rattle.a64_alu.specs.Add.{total, flags_of, with_sum, with_sum_or_sp, number_of, extended_left}
+use Rattle.a64_alu.specs.Shifts.{shifted}
+use Rattle.a64_alu.specs.Logical.{combined, with_logical, with_logical_or_sp, mask_of, inverted_if}
+use Rattle.a64_alu.specs.Moves.{address_of, moved, field_moved, extracted}
+use Rattle.a64_alu.specs.Conditions.{holds, operand_of, changed}
+use Rattle.a64_alu.specs.Products.{product_of}
+use Rattle.a64_alu.specs.Quotients.{two_sources}
+use Rattle.a64_alu.specs.Reversals.{one_source}
+
+-- the rows of data processing
+abbrev pub is_data_processing : Instr → Bool
+is_data_processing (Address _ _ _) = true
+is_data_processing (AddSubImmediate _ _ _ _ _ _ _) = true
+is_data_processing (LogicalImmediate _ _ _ _ _ _ _) = true
+is_data_processing (MoveWide _ _ _ _ _) = true
+is_data_processing (Bitfield _ _ _ _ _ _) = true
+is_data_processing (Extract _ _ _ _ _) = true
+is_data_processing (LogicalShifted _ _ _ _ _ _ _ _) = true
+is_data_processing (AddSubShifted _ _ _ _ _ _ _ _) = true
+is_data_processing (AddSubExtended _ _ _ _ _ _ _ _) = true
+is_data_processing (AddSubCarry _ _ _ _ _ _) = true
+is_data_processing (ConditionalCompare _ _ _ _ _ _) = true
+is_data_processing (ConditionalSelect _ _ _ _ _ _) = true
+is_data_processing (ThreeSources _ _ _ _ _ _) = true
+is_data_processing (TwoSources _ _ _ _ _) = true
+is_data_processing (OneSource _ _ _ _) = true
+is_data_processing _ = false
+
+-- a core after a data processing instruction, but for the step of PC
+unfoldable pub computed : Instr → CoreData → CoreData
+computed (Address page offset rd) core = with_x core rd.0 (address_of page core.pc offset)
+computed (AddSubImmediate wide subtract flags shift imm12 rn rd) core =
+    with_sum_or_sp core rd flags (total wide subtract (x_or_sp core rn) (number_of shift imm12) subtract)
+computed (LogicalImmediate wide kind n immr imms rn rd) core =
+    let width : ℕ = width_of wide in
+    with_logical_or_sp core width kind rd (combined kind (low_x core width rn) (mask_of n immr imms wide))
+computed (MoveWide wide kind hw imm16 rd) core =
+    let width : ℕ = width_of wide in
+    with_x core rd.0 (moved width kind (low_x core width rd) (16 * hw) imm16)
+computed (Bitfield wide kind immr imms rn rd) core =
+    let width : ℕ = width_of wide in
+    with_x core rd.0 (field_moved width kind immr imms (low_x core width rd) (low_x core width rn))
+computed (Extract wide rm imms rn rd) core =
+    let width : ℕ = width_of wide in
+    with_x core rd.0 (extracted width (low_x core width rn) (low_x core width rm) imms)
+computed (LogicalShifted wide kind shift invert rm amount rn rd) core =
+    let width : ℕ = width_of wide in
+    let operand : ℕ = inverted_if invert width (shifted width shift (low_x core width rm) amount) in
+    with_logical core width kind rd (combined kind (low_x core width rn) operand)
+computed (AddSubShifted wide subtract flags shift rm amount rn rd) core =
+    let width : ℕ = width_of wide in
+    let operand : ℕ = shifted width shift (low_x core width rm) amount in
+    with_sum core rd flags (total wide subtract (x_of core rn.0) operand subtract)
+computed (AddSubExtended wide subtract flags rm extend amount rn rd) core =
+    let operand : ℕ = extended_left extend (x_of core rm.0) amount in
+    with_sum_or_sp core rd flags (total wide subtract (x_or_sp core rn) operand subtract)
+computed (AddSubCarry wide subtract flags rm rn rd) core =
+    with_sum core rd flags (total wide subtract (x_of core rn.0) (x_of core rm.0) (carry_flag core.pstate == 1))
+computed (ConditionalCompare wide subtract operand condition rn nzcv) core =
+    let compared : ℕ = flags_of (total wide subtract (x_of core rn.0) (operand_of core operand) subtract) in
+    with_flags core (if holds condition core.pstate then compared else nzcv)
+computed (ConditionalSelect wide kind rm condition rn rd) core =
+    let width : ℕ = width_of wide in
+    let other : ℕ = changed width kind (low_x core width rm) in
+    with_x core rd.0 (if holds condition core.pstate then low_x core width rn else other)
+computed (ThreeSources wide kind rm ra rn rd) core =
+    let width : ℕ = width_of wide in
+    with_x core rd.0 (product_of width kind (low_x core width ra) (low_x core width rn) (low_x core width rm))
+computed (TwoSources wide kind rm rn rd) core =
+    let width : ℕ = width_of wide in
+    with_x core rd.0 (two_sources width kind (low_x core width rn) (low_x core width rm))
+computed (OneSource wide kind rn rd) core =
+    let width : ℕ = width_of wide in
+    with_x core rd.0 (one_source width kind (low_x core width rn))
+computed _ core = core

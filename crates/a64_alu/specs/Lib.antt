@@ -1,0 +1,12 @@
+pub mod Numbers
+pub mod Results
+pub mod Add
+pub mod Shifts
+pub mod Logical
+pub mod Moves
+pub mod Conditions
+pub mod Products
+pub mod Quotients
+pub mod Reversals
+pub mod Computed
+pub mod Groups

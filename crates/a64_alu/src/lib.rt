@@ -1,0 +1,23 @@
+//! What the data processing instructions of the A64 base integer set do: a new value for one register, and the flags.
+//!
+//! Loads, stores, branches, system instructions and the step of PC to the next instruction are said by the crates
+//! above.
+#![tactic(auto)]
+
+pub use dispatch::{alu, is_alu};
+
+mod add;
+#[cfg(test)]
+mod cases;
+mod condition;
+mod dispatch;
+mod logical;
+mod moves;
+mod number;
+mod product;
+mod quotient;
+mod result;
+mod reversal;
+mod shift;
+#[cfg(test)]
+mod tests;

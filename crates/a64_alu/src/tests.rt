@@ -1,0 +1,154 @@
+use crate::cases::{
+    ADDED, ADDITIONS, CONDITIONS, LOGIC, MOVES, OLD, PRODUCTS, REVERSALS, Row, SPECIAL, STACK,
+};
+use crate::result::write_flags;
+use crate::{alu, is_alu};
+use a64_decode::decode;
+use a64_state::{Core, pstate};
+use std::process::Abort;
+
+/// The instruction does what the row says to x0, SP and the flags, and nothing else.
+fn agrees(rt: &impl Abort, row: Row) {
+    let (word, x1, x2, flags, x0, sp, flags_after) = row;
+    assert!(rt; flags < 16 && flags_after < 16, "{word:08X}");
+    let mut core = Core::reset(0);
+    core.write_x(0, OLD);
+    core.write_x(1, x1);
+    core.write_x(2, x2);
+    core.write_x(3, ADDED);
+    core.write_sp(STACK);
+    write_flags(&mut core, flags);
+    let mut expected = core;
+    expected.write_x(0, x0);
+    expected.write_sp(sp);
+    write_flags(&mut expected, flags_after);
+
+    let instr = decode(word);
+    assert!(rt; is_alu(&instr), "{word:08X}");
+    alu(&mut core, &instr);
+    assert_eq!(rt; core.read_x(0), x0, "{word:08X}");
+    assert_eq!(rt; core.read_sp(), sp, "{word:08X}");
+    assert_eq!(rt; core.pstate / pstate::V, flags_after, "{word:08X}");
+    assert!(rt; core == expected, "{word:08X}");
+}
+
+#[test]
+fn additions(rt: HostRuntime) {
+    for row in ADDITIONS {
+        agrees(&rt, row);
+    }
+}
+
+#[test]
+fn logic(rt: HostRuntime) {
+    for row in LOGIC {
+        agrees(&rt, row);
+    }
+}
+
+#[test]
+fn moves(rt: HostRuntime) {
+    for row in MOVES {
+        agrees(&rt, row);
+    }
+}
+
+#[test]
+fn conditions(rt: HostRuntime) {
+    for row in CONDITIONS {
+        agrees(&rt, row);
+    }
+}
+
+#[test]
+fn products_and_quotients(rt: HostRuntime) {
+    for row in PRODUCTS {
+        agrees(&rt, row);
+    }
+}
+
+#[test]
+fn shifts_and_reversals(rt: HostRuntime) {
+    for row in REVERSALS {
+        agrees(&rt, row);
+    }
+}
+
+#[test]
+fn register_31(rt: HostRuntime) {
+    for row in SPECIAL {
+        agrees(&rt, row);
+    }
+}
+
+/// Worked out by hand from the manual's pseudocode.
+#[test]
+fn addresses(rt: HostRuntime) {
+    #[rattlefmt::skip]
+    const ROWS: [(&str, u32, u64, u64); 8] = [
+        // shows                             word         PC                     x1
+        ("adr x1, #5",                      0x3000_0021, 0x1000,                0x1005),
+        ("adr x1, #-1",                     0x70FF_FFE1, 0x1000,                0xFFF),
+        ("adr x1, #-1 at 0",                0x70FF_FFE1, 0,                     u64::MAX),
+        ("adr x1, #1048575",                0x707F_FFE1, 0xFFFF_FFFF_FFFF_FFFC, 0xF_FFFB),
+        ("adrp x1, #0x7000",                0xF000_0021, 0x1FFC,                0x8000),
+        ("adrp x1, #-0x1000",               0xF0FF_FFE1, 0x1FFC,                0),
+        ("adrp x1, #-0x1000 in page 0",     0xF0FF_FFE1, 0x10,                  0xFFFF_FFFF_FFFF_F000),
+        ("adrp x1, #-0x100000000",          0x9080_0001, 0x1_0000_0FFC,         0),
+    ];
+    for (shows, word, pc, x1) in ROWS {
+        let mut core = Core::reset(0);
+        core.pc = pc;
+        let mut expected = core;
+        expected.write_x(1, x1);
+        let instr = decode(word);
+        assert!(rt; is_alu(&instr), "{shows}");
+        alu(&mut core, &instr);
+        assert_eq!(rt; core.read_x(1), x1, "{shows}");
+        assert!(rt; core == expected, "{shows}");
+    }
+}
+
+/// Worked out by hand from the manual's pseudocode.
+#[test]
+fn whole_pstate(rt: HostRuntime) {
+    #[rattlefmt::skip]
+    const ROWS: [(&str, u32, u64, u64, u8, u64, u32); 4] = [
+        // shows                             word         x0       x1        Rd  result   PSTATE
+        ("and x4, x0, #0x3f8",              0x927D_2004, 0x12345, 0,        4,  0x340,   0x3C5),
+        ("the least number by -1",          0x9AC1_0C02, 1 << 63, u64::MAX, 2,  1 << 63, 0x3C5),
+        ("a divisor of 0",                  0x9AC1_0C02, 1 << 63, 0,        2,  0,       0x3C5),
+        ("adds x0, x0, x1",                 0xAB01_0000, 1 << 63, 1 << 63,  0,  0,       0x7000_03C5),
+    ];
+    for (shows, word, x0, x1, rd, result, after) in ROWS {
+        let mut core = Core::reset(0);
+        core.write_x(0, x0);
+        core.write_x(1, x1);
+        let instr = decode(word);
+        assert!(rt; is_alu(&instr) && rd <= 31, "{shows}");
+        alu(&mut core, &instr);
+        assert_eq!(rt; core.read_x(rd), result, "{shows}");
+        assert_eq!(rt; core.pstate, after, "{shows}");
+    }
+}
+
+#[test]
+fn other_rows(rt: HostRuntime) {
+    #[rattlefmt::skip]
+    const ROWS: [(&str, u32); 10] = [
+        // shows                word
+        ("b #0",               0x1400_0000),
+        ("cbz x0, #0",         0xB400_0000),
+        ("svc #0",             0xD400_0001),
+        ("nop",                0xD503_201F),
+        ("mrs x0, sctlr_el1",  0xD538_1000),
+        ("ldr x0, [x1]",       0xF940_0020),
+        ("ldp x0, x1, [x2]",   0xA940_0440),
+        ("ldr x0, #0",         0x5800_0000),
+        ("eret",               0xD69F_03E0),
+        ("no instruction",     0),
+    ];
+    for (shows, word) in ROWS {
+        assert!(rt; !is_alu(&decode(word)), "{shows}");
+    }
+}
