@@ -1,5 +1,5 @@
--- What each load and store asks of memory: an equation a row of the table of words. Offsets count words in a literal
--- load, elements in a pair and where they are unsigned, else bytes. `isv` tells an access by one register without
+-- What each load and store asks of memory: an equation a row of the table of words. An offset counts words in a literal
+-- load, elements in a pair and where it is unsigned, and else bytes. `isv` is true of an access by one register without
 -- write-back (ARM DDI 0487, "ISS encoding for an exception from a Data Abort", ISV).
 use Rattle.std.specs.Prelude.{◌≡◌, ℕ, ◌^◌, ◌⊎◌, Option, Some, None, Bool, true, false, not, if◌then◌else◌}
 use Rattle.a64_state.specs.Core.{CoreData}
