@@ -1,0 +1,185 @@
+ghost use Rattle.std.specs.Prelude.{◌≡◌, ◌^◌, ◌&&◌, ◌==◌, ◌↔◌, if◌then◌else◌, true, false, IsTrue, IsSome, IfSome, is_none, not};
+ghost use Rattle.a64_decode.specs.Lawful.{IsLawful, IsReg, is_prefetch, writes_back};
+ghost use Rattle.a64_address.specs.Address.{scale_of, pair_scale, literal_scale, plus, shifted_left, base_of, is_sp, address_of, back_of};
+ghost use Rattle.a64_address.specs.Shape.{is_access, is_literal_prefetch, is_store, IsWidth, IsCount, memory_shape};
+
+use crate::address::{address, back, base, bytes, extended, literal_bytes, pair_bytes};
+use a64_decode::{IndexMode, Instr, LiteralKind, PairKind, Reg, Size, Transfer};
+use a64_state::Core;
+
+/// What a load or a store asks of memory: `count` elements of `width` bytes, one behind the other from `at` on.
+/// Addresses wrap at 2^64.
+#[derive(Clone, Copy, Debug, PartialEq, Eq)]
+pub struct MemShape {
+    /// The address of the first byte.
+    pub at: u64,
+    /// The bytes of an element: 1, 2, 4 or 8.
+    pub width: u32,
+    /// 1, or 2 for a pair.
+    pub count: u8,
+    /// Whether the access is a store.
+    pub store: bool,
+    /// Whether the base register is SP, whose alignment is then checked.
+    pub base_sp: bool,
+    /// What the base register becomes once the access has succeeded, where it is written back.
+    pub back: Option<u64>,
+    /// Whether the syndrome of an abort that stage 2 takes would describe the access (ISV): one register, and no
+    /// write-back.
+    pub isv: bool,
+}
+
+/// What an instruction asks of memory, or None where it is no load or store. A prefetch is neither (ARM DDI 0487,
+/// "Loads and stores").
+#[tactic(auto, unfolding(crate::specs::Shape::memory_shape))]
+pub fn shape_of(core: &Core, instr: &Instr) -> Option<MemShape>
+    requires { IsLawful instr.now }
+    ensures shape { result ≡ memory_shape core.now instr.now }
+    ensures access { IsSome result ↔ IsTrue (is_access instr.now) }
+    ensures width { IfSome result (λ s. IsWidth s.width) }
+    ensures count { IfSome result (λ s. IsCount s.count) }
+    ensures syndrome { IfSome result (λ s. s.isv ≡ (s.count == 1 && is_none s.back)) }
+{
+    match *instr {
+        Instr::LoadLiteral { kind, offset, .. } => literal(core, kind, offset.wrapping_mul(4)),
+        Instr::Pair {
+            kind,
+            mode,
+            load,
+            offset,
+            rn,
+            ..
+        } => Some(pair(core, kind, mode, load, rn, offset)),
+        Instr::LoadStoreUnsigned {
+            size,
+            transfer,
+            imm12,
+            rn,
+            ..
+        } => {
+            let offset = (imm12 as u64).wrapping_mul(bytes(size) as u64);
+            single(core, size, transfer, IndexMode::Offset, rn, offset)
+        }
+        Instr::LoadStoreIndexed {
+            size,
+            transfer,
+            offset,
+            mode,
+            rn,
+            ..
+        } => single(core, size, transfer, mode, rn, offset),
+        Instr::LoadStoreRegister {
+            size,
+            transfer,
+            rm,
+            extend,
+            scaled,
+            rn,
+            ..
+        } => {
+            let unit = if scaled { bytes(size) } else { 1 };
+            let offset = extended(extend, core.read_x(rm.0)).wrapping_mul(unit as u64);
+            single(core, size, transfer, IndexMode::Offset, rn, offset)
+        }
+        _ => None,
+    }
+}
+
+/// A load of a literal at an offset from the instruction itself.
+fn literal(core: &Core, kind: LiteralKind, offset: u64) -> Option<MemShape>
+    ensures shape { result ≡ (if is_literal_prefetch kind then None else Some (record {
+      at = plus core.now.pc offset;
+      width = 2 ^ literal_scale kind;
+      count = 1;
+      store = false;
+      base_sp = false;
+      back = None;
+      isv = true;
+    })) }
+    ensures access { IsSome result ↔ IsTrue (not (is_literal_prefetch kind)) }
+    ensures width { IfSome result (λ s. IsWidth s.width) }
+    ensures count { IfSome result (λ s. IsCount s.count) }
+    ensures syndrome { IfSome result (λ s. s.isv ≡ (s.count == 1 && is_none s.back)) }
+{
+    if kind == LiteralKind::Prefetch {
+        return None;
+    }
+    Some(MemShape {
+        at: core.pc.wrapping_add(offset),
+        width: literal_bytes(kind),
+        count: 1,
+        store: false,
+        base_sp: false,
+        back: None,
+        isv: true,
+    })
+}
+
+/// A load or store of one register at an offset in bytes from its base.
+fn single(
+    core: &Core,
+    size: Size,
+    transfer: Transfer,
+    mode: IndexMode,
+    rn: Reg,
+    offset: u64,
+) -> Option<MemShape>
+    requires { IsReg rn }
+    ensures shape { result ≡ (if is_prefetch size transfer then None else Some (record {
+      at = address_of mode (base_of core.now rn) offset;
+      width = 2 ^ scale_of size;
+      count = 1;
+      store = is_store transfer;
+      base_sp = is_sp rn;
+      back = back_of mode (base_of core.now rn) offset;
+      isv = not (writes_back mode);
+    })) }
+    ensures access { IsSome result ↔ IsTrue (not (is_prefetch size transfer)) }
+    ensures width { IfSome result (λ s. IsWidth s.width) }
+    ensures count { IfSome result (λ s. IsCount s.count) }
+    ensures syndrome { IfSome result (λ s. s.isv ≡ (s.count == 1 && is_none s.back)) }
+{
+    if size == Size::Double && transfer == Transfer::LoadSigned {
+        return None;
+    }
+    let base = base(core, rn);
+    Some(MemShape {
+        at: address(mode, base, offset),
+        width: bytes(size),
+        count: 1,
+        store: transfer == Transfer::Store,
+        base_sp: rn.0 == 31,
+        back: back(mode, base, offset),
+        isv: mode == IndexMode::Offset,
+    })
+}
+
+/// A load or store of two registers at an offset from their base, which counts elements.
+fn pair(core: &Core, kind: PairKind, mode: IndexMode, load: bool, rn: Reg, offset: u64) -> MemShape
+    requires { IsReg rn }
+    ensures shape { result ≡ record {
+      at = address_of mode (base_of core.now rn) (shifted_left offset (pair_scale kind));
+      width = 2 ^ pair_scale kind;
+      count = 2;
+      store = not load;
+      base_sp = is_sp rn;
+      back = back_of mode (base_of core.now rn) (shifted_left offset (pair_scale kind));
+      isv = false;
+    } }
+    ensures width { IsWidth result.width }
+    ensures count { IsCount result.count }
+    ensures syndrome { result.isv ≡ (result.count == 1 && is_none result.back) }
+{
+    let width = pair_bytes(kind);
+    let base_sp = rn.0 == 31;
+    let base = base(core, rn);
+    let offset = offset.wrapping_mul(width as u64);
+    MemShape {
+        at: address(mode, base, offset),
+        width,
+        count: 2,
+        store: !load,
+        base_sp,
+        back: back(mode, base, offset),
+        isv: false,
+    }
+}
