@@ -37,58 +37,66 @@ fn permission_table(rt: HostRuntime) {
     }
 }
 
+const GUEST: Region = Region {
+    base: 0x100004,
+    limit: 0x10ffc1,
+};
+
+const OFF: Region = Region {
+    base: 0x100004,
+    limit: 0x10ffc0,
+};
+
+const NEXT: Region = Region {
+    base: 0x110004,
+    limit: 0x11ffc1,
+};
+
+const GRANULE: Region = Region {
+    base: 0x108004,
+    limit: 0x108001,
+};
+
+// The last granule that an entry can name, which ends at 2^48, and all granules.
+const TOP: Region = Region {
+    base: 0x0000_ffff_ffff_ffc4,
+    limit: 0x0000_ffff_ffff_ffc1,
+};
+
+const ALL: Region = Region {
+    base: 0x4,
+    limit: 0x0000_ffff_ffff_ffc1,
+};
+
+const REVERSED: Region = Region {
+    base: 0x110004,
+    limit: 0x10ffc1,
+};
+
+#[rattlefmt::skip]
+const ENTRIES: [(&str, [Region; 2], u64, Verdict); 16] = [
+    // shows                        entries             byte                   verdict of a read
+    ("the first byte",              [GUEST, NEXT],      0x100000,              Verdict::Allow),
+    ("the byte before",             [GUEST, NEXT],      0x0f_ffff,             Verdict::Translation),
+    ("the limit granule's last",    [GUEST, OFF],       0x10_ffff,             Verdict::Allow),
+    ("the byte behind",             [GUEST, OFF],       0x11_0000,             Verdict::Translation),
+    ("the neighbour",               [GUEST, NEXT],      0x11_0000,             Verdict::Allow),
+    ("an entry that is off",        [OFF, OFF],         0x100000,              Verdict::Translation),
+    ("two entries",                 [GUEST, GRANULE],   0x108000,              Verdict::Translation),
+    ("beside the second entry",     [GUEST, GRANULE],   0x108040,              Verdict::Allow),
+    ("twice the same entry",        [GUEST, GUEST],     0x100000,              Verdict::Translation),
+    ("base above limit",            [REVERSED, OFF],    0x110000,              Verdict::Translation),
+    ("base above limit, below",     [REVERSED, OFF],    0x10_ffff,             Verdict::Translation),
+    ("the top granule's first",     [TOP, OFF],         0x0000_ffff_ffff_ffc0, Verdict::Allow),
+    ("the top granule's last",      [TOP, OFF],         0x0000_ffff_ffff_ffff, Verdict::Allow),
+    ("below the top granule",       [TOP, OFF],         0x0000_ffff_ffff_ffbf, Verdict::Translation),
+    ("2^48",                        [ALL, OFF],         0x0001_0000_0000_0000, Verdict::Translation),
+    ("the last address",            [ALL, OFF],         0xffff_ffff_ffff_ffff, Verdict::Translation),
+];
+
 #[test]
 fn number_of_entries(rt: HostRuntime) {
-    const GUEST: Region = Region {
-        base: 0x100004,
-        limit: 0x10ffc1,
-    };
-    const OFF: Region = Region {
-        base: 0x100004,
-        limit: 0x10ffc0,
-    };
-    const NEXT: Region = Region {
-        base: 0x110004,
-        limit: 0x11ffc1,
-    };
-    const GRANULE: Region = Region {
-        base: 0x108004,
-        limit: 0x108001,
-    };
-    // The last granule that an entry can name, which ends at 2^48, and all granules.
-    const TOP: Region = Region {
-        base: 0x0000_ffff_ffff_ffc4,
-        limit: 0x0000_ffff_ffff_ffc1,
-    };
-    const ALL: Region = Region {
-        base: 0x4,
-        limit: 0x0000_ffff_ffff_ffc1,
-    };
-    const REVERSED: Region = Region {
-        base: 0x110004,
-        limit: 0x10ffc1,
-    };
-    #[rattlefmt::skip]
-    const ROWS: [(&str, [Region; 2], u64, Verdict); 16] = [
-        // shows                        entries             byte                   verdict of a read
-        ("the first byte",              [GUEST, NEXT],      0x100000,              Verdict::Allow),
-        ("the byte before",             [GUEST, NEXT],      0x0f_ffff,             Verdict::Translation),
-        ("the limit granule's last",    [GUEST, OFF],       0x10_ffff,             Verdict::Allow),
-        ("the byte behind",             [GUEST, OFF],       0x11_0000,             Verdict::Translation),
-        ("the neighbour",               [GUEST, NEXT],      0x11_0000,             Verdict::Allow),
-        ("an entry that is off",        [OFF, OFF],         0x100000,              Verdict::Translation),
-        ("two entries",                 [GUEST, GRANULE],   0x108000,              Verdict::Translation),
-        ("beside the second entry",     [GUEST, GRANULE],   0x108040,              Verdict::Allow),
-        ("twice the same entry",        [GUEST, GUEST],     0x100000,              Verdict::Translation),
-        ("base above limit",            [REVERSED, OFF],    0x110000,              Verdict::Translation),
-        ("base above limit, below",     [REVERSED, OFF],    0x10_ffff,             Verdict::Translation),
-        ("the top granule's first",     [TOP, OFF],         0x0000_ffff_ffff_ffc0, Verdict::Allow),
-        ("the top granule's last",      [TOP, OFF],         0x0000_ffff_ffff_ffff, Verdict::Allow),
-        ("below the top granule",       [TOP, OFF],         0x0000_ffff_ffff_ffbf, Verdict::Translation),
-        ("2^48",                        [ALL, OFF],         0x0001_0000_0000_0000, Verdict::Translation),
-        ("the last address",            [ALL, OFF],         0xffff_ffff_ffff_ffff, Verdict::Translation),
-    ];
-    for (shows, entries, at, verdict) in ROWS {
+    for (shows, entries, at, verdict) in ENTRIES {
         assert_eq!(rt; judge2(&entries, Access::Read, at), verdict, "{shows}");
     }
     assert_eq!(rt; judge2(&[], Access::Read, 0x100000), Verdict::Translation);
