@@ -153,39 +153,40 @@ fn has_line(text: &[u8], line: &str) -> bool {
         .any(|other| other == line.as_bytes())
 }
 
+#[rattlefmt::skip]
+const PROGRAMS: [(&str, &[u32], u32, [&str; 2]); 24] = [
+    // shows                        words                                              steps  lines of the report
+    ("movz, bits 15 to 0",          &[0xd282_4681],                                       1, ["x1 0000000000001234", "pc 0000000000100004"]),
+    ("movz, bits 31 to 16",         &[0xd2a2_4681],                                       1, ["x1 0000000012340000", ""]),
+    ("movz, bits 47 to 32",         &[0xd2c2_4681],                                       1, ["x1 0000123400000000", ""]),
+    ("movz, bits 63 to 48",         &[0xd2e2_4681],                                       1, ["x1 1234000000000000", ""]),
+    ("movz clears the others",      &[0xd29f_ffe1, 0xd2a2_4681],                          2, ["x1 0000000012340000", ""]),
+    ("movz of the zero register",   &[0xd282_469f],                                       1, ["pc 0000000000100004", "console 0="]),
+    ("movz of the last register",   &[0xd282_469e],                                       1, ["x30 0000000000001234", ""]),
+    ("movk, bits 31 to 16",         &[0xd29f_ffe1, 0xf2a2_4681],                          2, ["x1 000000001234ffff", ""]),
+    ("movk, bits 47 to 32",         &[0xd29f_ffe1, 0xf2c2_4681],                          2, ["x1 000012340000ffff", ""]),
+    ("movk, bits 63 to 48",         &[0xd29f_ffe1, 0xf2e2_4681],                          2, ["x1 123400000000ffff", ""]),
+    ("movk, bits 15 to 0",          &[0xd2ff_ffe1, 0xf282_4681],                          2, ["x1 ffff000000001234", ""]),
+    ("movk replaces its bits",      &[0xd2bf_ffe1, 0xf2a2_4681],                          2, ["x1 0000000012340000", ""]),
+    ("add",                         &[0xd280_00a1, 0x913f_fc22],                          2, ["x2 0000000000001004", "pstate 000003c5"]),
+    ("add, shifted by 12",          &[0xd280_00a1, 0x9140_0422],                          2, ["x2 0000000000001005", ""]),
+    ("add wraps, and sets no flag", &[0xd29f_ffe1, 0xf2bf_ffe1, 0xf2df_ffe1, 0xf2ff_ffe1, 0x9100_0822],
+                                                                                          5, ["x2 0000000000000001", "pstate 000003c5"]),
+    ("add to sp",                   &[0xd280_00a1, 0x9100_003f],                          2, ["sp_el1 0000000000000005", ""]),
+    ("add from sp",                 &[0xd280_00a1, 0x9100_003f, 0x9100_07e3],             3, ["x3 0000000000000006", ""]),
+    ("b forward, over a word",      &[0x1400_0002, 0x0000_0000, 0xd280_00a0],             2, ["x0 0000000000000005", "pc 000000000010000c"]),
+    ("b backward",                  &[0xd280_00a0, 0x17ff_ffff],                          2, ["pc 0000000000100000", ""]),
+    ("b as far as it goes",         &[0x15ff_ffff],                                       1, ["pc 00000000080ffffc", ""]),
+    ("b back as far as it goes",    &[0x1600_0000],                                       1, ["pc fffffffff8100000", ""]),
+    ("nop and yield",               &[0xd503_201f, 0xd503_203f],                          2, ["pc 0000000000100008", "pstate 000003c5"]),
+    ("wfe, wfi, sev and sevl",      &[0xd503_205f, 0xd503_207f, 0xd503_209f, 0xd503_20bf], 4, ["pc 0000000000100010", ""]),
+    ("hints without a name",        &[0xd503_233f, 0xd503_2fff],                          2, ["pc 0000000000100008", ""]),
+];
+
 #[test]
 fn programs(rt: HostRuntime) -> Result<(), Fail> {
-    #[rattlefmt::skip]
-    const ROWS: [(&str, &[u32], u32, [&str; 2]); 24] = [
-        // shows                        words                                              steps  lines of the report
-        ("movz, bits 15 to 0",          &[0xd282_4681],                                       1, ["x1 0000000000001234", "pc 0000000000100004"]),
-        ("movz, bits 31 to 16",         &[0xd2a2_4681],                                       1, ["x1 0000000012340000", ""]),
-        ("movz, bits 47 to 32",         &[0xd2c2_4681],                                       1, ["x1 0000123400000000", ""]),
-        ("movz, bits 63 to 48",         &[0xd2e2_4681],                                       1, ["x1 1234000000000000", ""]),
-        ("movz clears the others",      &[0xd29f_ffe1, 0xd2a2_4681],                          2, ["x1 0000000012340000", ""]),
-        ("movz of the zero register",   &[0xd282_469f],                                       1, ["pc 0000000000100004", "console 0="]),
-        ("movz of the last register",   &[0xd282_469e],                                       1, ["x30 0000000000001234", ""]),
-        ("movk, bits 31 to 16",         &[0xd29f_ffe1, 0xf2a2_4681],                          2, ["x1 000000001234ffff", ""]),
-        ("movk, bits 47 to 32",         &[0xd29f_ffe1, 0xf2c2_4681],                          2, ["x1 000012340000ffff", ""]),
-        ("movk, bits 63 to 48",         &[0xd29f_ffe1, 0xf2e2_4681],                          2, ["x1 123400000000ffff", ""]),
-        ("movk, bits 15 to 0",          &[0xd2ff_ffe1, 0xf282_4681],                          2, ["x1 ffff000000001234", ""]),
-        ("movk replaces its bits",      &[0xd2bf_ffe1, 0xf2a2_4681],                          2, ["x1 0000000012340000", ""]),
-        ("add",                         &[0xd280_00a1, 0x913f_fc22],                          2, ["x2 0000000000001004", "pstate 000003c5"]),
-        ("add, shifted by 12",          &[0xd280_00a1, 0x9140_0422],                          2, ["x2 0000000000001005", ""]),
-        ("add wraps, and sets no flag", &[0xd29f_ffe1, 0xf2bf_ffe1, 0xf2df_ffe1, 0xf2ff_ffe1, 0x9100_0822],
-                                                                                              5, ["x2 0000000000000001", "pstate 000003c5"]),
-        ("add to sp",                   &[0xd280_00a1, 0x9100_003f],                          2, ["sp_el1 0000000000000005", ""]),
-        ("add from sp",                 &[0xd280_00a1, 0x9100_003f, 0x9100_07e3],             3, ["x3 0000000000000006", ""]),
-        ("b forward, over a word",      &[0x1400_0002, 0x0000_0000, 0xd280_00a0],             2, ["x0 0000000000000005", "pc 000000000010000c"]),
-        ("b backward",                  &[0xd280_00a0, 0x17ff_ffff],                          2, ["pc 0000000000100000", ""]),
-        ("b as far as it goes",         &[0x15ff_ffff],                                       1, ["pc 00000000080ffffc", ""]),
-        ("b back as far as it goes",    &[0x1600_0000],                                       1, ["pc fffffffff8100000", ""]),
-        ("nop and yield",               &[0xd503_201f, 0xd503_203f],                          2, ["pc 0000000000100008", "pstate 000003c5"]),
-        ("wfe, wfi, sev and sevl",      &[0xd503_205f, 0xd503_207f, 0xd503_209f, 0xd503_20bf], 4, ["pc 0000000000100010", ""]),
-        ("hints without a name",        &[0xd503_233f, 0xd503_2fff],                          2, ["pc 0000000000100008", ""]),
-    ];
     let alloc = rt.alloc();
-    for (shows, words, count, lines) in ROWS {
+    for (shows, words, count, lines) in PROGRAMS {
         let schedule = steps(alloc, count)?;
         let mut shelf = shelf_of(
             alloc,
@@ -281,30 +282,31 @@ fn words(rt: HostRuntime) -> Result<(), Fail> {
     Ok(())
 }
 
+#[rattlefmt::skip]
+const SCHEDULES: [(&str, bool); 16] = [
+    // schedule              accepted
+    ("",                     true),
+    ("s 0 0\n",              true),
+    ("s 0 9\n",              true),
+    ("s 0 3\ns 0 3\n",       true),
+    ("s 0 3\ns 0 4\n",       true),
+    ("s 0 4\ns 0 3\n",       false),
+    ("s 0 0",                false),
+    ("\n",                   false),
+    ("# comment\n",          false),
+    ("s 1 0\n",              false),
+    ("s 0 00\n",             false),
+    ("s 0 10\n",             false),
+    ("i 0 0\n",              false),
+    ("s  0 0\n",             false),
+    ("s 0 0\r\n",            false),
+    ("s 0 0\ns 0 0",         false),
+];
+
 #[test]
 fn schedules(rt: HostRuntime) -> Result<(), Fail> {
-    #[rattlefmt::skip]
-    const ROWS: [(&str, bool); 16] = [
-        // schedule              accepted
-        ("",                     true),
-        ("s 0 0\n",              true),
-        ("s 0 9\n",              true),
-        ("s 0 3\ns 0 3\n",       true),
-        ("s 0 3\ns 0 4\n",       true),
-        ("s 0 4\ns 0 3\n",       false),
-        ("s 0 0",                false),
-        ("\n",                   false),
-        ("# comment\n",          false),
-        ("s 1 0\n",              false),
-        ("s 0 00\n",             false),
-        ("s 0 10\n",             false),
-        ("i 0 0\n",              false),
-        ("s  0 0\n",             false),
-        ("s 0 0\r\n",            false),
-        ("s 0 0\ns 0 0",         false),
-    ];
     let alloc = rt.alloc();
-    for (schedule, accepted) in ROWS {
+    for (schedule, accepted) in SCHEDULES {
         // `b .`, which goes on for ever.
         let mut shelf = shelf_of(
             alloc,
@@ -401,7 +403,12 @@ fn a_shelf_that_fails(rt: HostRuntime) -> Result<(), Fail> {
     )?;
     assert_eq!(rt; play(alloc, &RUN, &mut shelf, &[])?.status, Status::Done);
     assert_eq!(rt; shelf.calls(), 3);
-    // Files that are missing.
+    Ok(())
+}
+
+#[test]
+fn a_file_that_is_missing(rt: HostRuntime) -> Result<(), Fail> {
+    let alloc = rt.alloc();
     let mut shelf = shelf_of(alloc, CONFIG.as_bytes(), image_of(alloc, &FIVE)?, b"", &[])?;
     let played = play(alloc, &["run", "config.toml", "other.txt"], &mut shelf, &[])?;
     assert_eq!(rt;
