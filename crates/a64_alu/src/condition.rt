@@ -10,8 +10,9 @@ use a64_decode::{Condition, Operand, SelectKind};
 use a64_state::Core;
 use bao_types::field;
 
-/// Whether a condition holds.
-pub(crate) fn holds(condition: Condition, pstate: u32) -> bool
+/// Whether a condition holds by the flags in PSTATE, which are its bits 31 to 28: N, Z, C and V (ARM DDI 0487,
+/// "ConditionHolds").
+pub fn holds(condition: Condition, pstate: u32) -> bool
     ensures { result ≡ holds_in condition pstate }
 {
     let negative = field(pstate, 31, 31);

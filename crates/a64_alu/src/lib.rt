@@ -4,6 +4,7 @@
 //! above.
 #![tactic(auto)]
 
+pub use condition::holds;
 pub use dispatch::{alu, is_alu};
 
 mod add;

@@ -1,0 +1,4 @@
+pub mod Want
+pub mod Branch
+pub mod Transfer
+pub mod Finish
