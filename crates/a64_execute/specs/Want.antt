@@ -43,6 +43,10 @@ need_of core instr (Some shape) =
 unfoldable pub wanted : CoreData → Instr → Need
 wanted core instr = need_of core instr (memory_shape core instr)
 
+abbrev pub is_unbuilt : Need → Bool
+is_unbuilt need.Unbuilt = true
+is_unbuilt _ = false
+
 -- an access of one or two elements of 1, 2, 4 or 8 bytes
 pub record IsAccess (shape : MemShape) : Type 0 where
   pub width : IsWidth shape.width

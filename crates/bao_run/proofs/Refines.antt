@@ -1,18 +1,18 @@
 -- The sample's packing lets through what its map does, so a step of the board is a step of the flat machine.
 use Rattle.std.proofs.Common.{◌≡◌, ℕ, ◌+◌, Bool, true, false, [], ◌∷◌, refl, sym, ap, subst, ◌∙◌, arith}
-use Rattle.std.specs.Prelude.{if◌then◌else◌, nat_le, nat_lt, ◌&&◌, slice_set}
+use Rattle.std.specs.Prelude.{if◌then◌else◌, nat_le, nat_lt, ◌&&◌, slice_set, is_none}
 use Rattle.std.proofs.lemmas.Bool.Decides.{nat_tests}
 use Rattle.bao_types.specs.declared.access.Access.{Access}
 use Rattle.bao_types.specs.declared.access.Access.TheVariants.{Read, Write, Exec}
 use Rattle.bao_types.specs.Region.{covers}
 use Rattle.pmsa_stage2.specs.Stage2.{stage2}
 use Rattle.board.specs.declared.board.Exit.TheVariants as exit
-use Rattle.board.specs.Sample.{sample, sample_packing, hypervisor_entry, memory_entry, console_entry}
-use Rattle.board.specs.Map.{is_within}
+use Rattle.board.specs.Sample.{sample, sample_packing, sample_shape, hypervisor_entry, memory_entry, console_entry}
+use Rattle.board.specs.Map.{is_within, is_platform_port}
 use Rattle.board.specs.Stage2.{by_map, by_entries}
-use Rattle.board.specs.Attempt.{is_unbuilt, core_after}
-use Rattle.board.specs.Machine.{Machine, core_at, entries_at, stepped, step_is_unbuilt}
-use Rattle.board.specs.Flat.{On, Step, project, flat_step, is_event_unbuilt}
+use Rattle.board.specs.Attempt.{reach_of, attempt, core_of, stored_of}
+use Rattle.board.specs.Machine.{Machine, core_at, entries_at, is_port, written, machine_reach, step_attempt, stepped, step_is_unbuilt}
+use Rattle.board.specs.Flat.{On, Step, project, flat_reach, flat_attempt, flat_step, is_event_unbuilt}
 
 -- a test up to the last number is one below the next
 up_to : (a n : ℕ) → nat_le a n ≡ nat_lt a (n + 1)
@@ -67,32 +67,47 @@ module _ (at : ℕ) where
 pub realises : by_entries sample_packing ≡ by_map sample 0
 realises = λ i access at. at_byte at access i
 
--- the core's next step is built for the board where it is for the flat machine
-pub unbuilt_alike : (m : Machine) (count : ℕ) → m.entries ≡ sample_packing ∷ []
-    → step_is_unbuilt m 0 ≡ is_event_unbuilt sample (project (On ∷ []) m) (Step 0 count)
-unbuilt_alike m count packed =
-    ap (λ entries. is_unbuilt (by_entries (entries_at entries 0)) m.bytes (core_at m.cores 0)) packed
-    ∙ ap (λ stage2. is_unbuilt stage2 m.bytes (core_at m.cores 0)) realises
+-- what the core of a board that is packed reaches is what it reaches by the map
+pub reach_alike : (m : Machine) → m.entries ≡ sample_packing ∷ [] → m.shape ≡ sample_shape m.shape.events
+    → machine_reach m 0 ≡ flat_reach sample (project (On ∷ []) m) 0
+reach_alike m packed shaped =
+    ap (λ entries. reach_of (by_entries (entries_at entries 0)) (is_port m.shape) m.bytes) packed
+    ∙ ap (λ shape. reach_of (by_entries sample_packing) (is_port shape) m.bytes) shaped
+    ∙ ap (λ stage2. reach_of stage2 (is_platform_port sample) m.bytes) realises
+
+-- the core's next step does for the board what it does for the flat machine
+pub attempt_alike : (m : Machine) (now : ℕ) → m.entries ≡ sample_packing ∷ [] → m.shape ≡ sample_shape m.shape.events
+    → step_attempt m 0 now ≡ flat_attempt sample (project (On ∷ []) m) 0 now
+attempt_alike m now packed shaped =
+    ap (λ reach. attempt reach (core_at m.cores 0) now) (reach_alike m packed shaped)
+
+-- it is built for the one where it is for the other
+pub unbuilt_alike : (m : Machine) (now : ℕ) → m.entries ≡ sample_packing ∷ [] → m.shape ≡ sample_shape m.shape.events
+    → step_is_unbuilt m 0 now ≡ is_event_unbuilt sample (project (On ∷ []) m) (Step 0 now)
+unbuilt_alike m now packed shaped = ap (λ a. is_none a) (attempt_alike m now packed shaped)
 
 -- a step of the board is a step of the flat machine
-pub stepped_alike : (m : Machine) (count : ℕ) → m.entries ≡ sample_packing ∷ []
-    → project (On ∷ []) (stepped m 0 count) ≡ flat_step sample (project (On ∷ []) m) (Step 0 count)
-stepped_alike m count packed =
-    ap (λ core. project (On ∷ []) (record m { cores = slice_set m.cores 0 core; count = count }))
-    (ap (λ entries. core_after (by_entries (entries_at entries 0)) m.bytes (core_at m.cores 0)) packed
-    ∙ ap (λ stage2. core_after stage2 m.bytes (core_at m.cores 0)) realises)
+pub stepped_alike : (m : Machine) (now : ℕ) → m.entries ≡ sample_packing ∷ [] → m.shape ≡ sample_shape m.shape.events
+    → project (On ∷ []) (stepped m 0 now) ≡ flat_step sample (project (On ∷ []) m) (Step 0 now)
+stepped_alike m now packed shaped =
+    ap (λ a. project (On ∷ []) (record m {
+      bytes = written (stored_of a) m.bytes;
+      cores = slice_set m.cores 0 (core_of (core_at m.cores 0) a);
+      count = now;
+    })) (attempt_alike m now packed shaped)
 
 -- the same for a core that is core 0
-module _ (m : Machine) (core count : ℕ) (own : core ≡ 0) (packed : m.entries ≡ sample_packing ∷ []) where
-  pub unbuilt_alike_at : step_is_unbuilt m core ≡ is_event_unbuilt sample (project (On ∷ []) m) (Step core count)
+module _ (m : Machine) (core now : ℕ) (own : core ≡ 0) (packed : m.entries ≡ sample_packing ∷ [])
+    (shaped : m.shape ≡ sample_shape m.shape.events) where
+  pub unbuilt_alike_at : step_is_unbuilt m core now ≡ is_event_unbuilt sample (project (On ∷ []) m) (Step core now)
   unbuilt_alike_at =
-      subst (λ c. step_is_unbuilt m c ≡ is_event_unbuilt sample (project (On ∷ []) m) (Step c count)) (sym own)
-      (unbuilt_alike m count packed)
+      subst (λ c. step_is_unbuilt m c now ≡ is_event_unbuilt sample (project (On ∷ []) m) (Step c now)) (sym own)
+      (unbuilt_alike m now packed shaped)
 
-  pub stepped_alike_at : project (On ∷ []) (stepped m core count) ≡ flat_step sample (project (On ∷ []) m) (Step core count)
+  pub stepped_alike_at : project (On ∷ []) (stepped m core now) ≡ flat_step sample (project (On ∷ []) m) (Step core now)
   stepped_alike_at =
-      subst (λ c. project (On ∷ []) (stepped m c count) ≡ flat_step sample (project (On ∷ []) m) (Step c count)) (sym own)
-      (stepped_alike m count packed)
+      subst (λ c. project (On ∷ []) (stepped m c now) ≡ flat_step sample (project (On ∷ []) m) (Step c now)) (sym own)
+      (stepped_alike m now packed shaped)
 
 -- what an exit says of the step
 pub ran_is_built : (unbuilt : Bool) → exit.Ran ≡ (if unbuilt then exit.Unbuilt else exit.Ran) → false ≡ unbuilt

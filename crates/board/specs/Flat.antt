@@ -1,13 +1,13 @@
 -- The model: one flat machine of all VMs, which asks the configuration's map for each byte. There is no EL2 entry and no hypervisor in it.
-use Rattle.std.specs.Prelude.{ℕ, zero, suc, ◌+◌, ◌==◌, ◌&&◌, Bool, true, false, if◌then◌else◌, List, [], ◌∷◌, map, is_some, Option, None, Some, slice_get, slice_set}
+use Rattle.std.specs.Prelude.{ℕ, zero, suc, ◌+◌, ◌==◌, ◌&&◌, Bool, true, false, if◌then◌else◌, List, [], ◌∷◌, map, is_some, is_none, Option, None, Some, slice_get, slice_set}
 use Rattle.std.specs.List.{enumerate_from, position_from}
 use Rattle.a64_state.specs.Core.{CoreData}
 use Rattle.a64_state.specs.Registers.{reset_core}
 use Rattle.board.specs.Config.{Config, Vm}
-use Rattle.board.specs.Map.{owner}
+use Rattle.board.specs.Map.{owner, is_platform_port}
 use Rattle.board.specs.Stage2.{by_map}
-use Rattle.board.specs.Attempt.{is_unbuilt, core_after}
-use Rattle.board.specs.Machine.{Machine, core_at, over}
+use Rattle.board.specs.Attempt.{Reach, reach_of, Effect, attempt, core_of, stored_of}
+use Rattle.board.specs.Machine.{Machine, core_at, over, written}
 
 -- whether a core runs. Nothing turns one on or off yet
 pub data Power : Type 0 where
@@ -36,16 +36,20 @@ is_on (Some Off) = false
 abbrev pub runs : Config → Flat → ℕ → Bool
 runs cfg f core = is_some (owner cfg core) && is_on (slice_get f.powers core)
 
--- memory after these bytes are written, in order
-abbrev pub written : List (ℕ × ℕ) → (ℕ → ℕ) → ℕ → ℕ
-written [] bytes = bytes
-written (store ∷ stores) bytes = written stores (over store.0 (store.1 ∷ []) bytes)
+-- what a core reaches by the map
+abbrev pub flat_reach : Config → Flat → ℕ → Reach
+flat_reach cfg f core = reach_of (by_map cfg core) (is_platform_port cfg) f.bytes
+
+-- what a step of the core does at a count
+abbrev pub flat_attempt : Config → Flat → ℕ → ℕ → Option Effect
+flat_attempt cfg f core now = attempt (flat_reach cfg f core) (core_at f.cores core) now
 
 -- after a step of a core that runs
 abbrev pub flat_stepped : Config → Flat → ℕ → ℕ → Flat
 flat_stepped cfg f core now =
     record f {
-      cores = slice_set f.cores core (core_after (by_map cfg core) f.bytes (core_at f.cores core));
+      bytes = written (stored_of (flat_attempt cfg f core now)) f.bytes;
+      cores = slice_set f.cores core (core_of (core_at f.cores core) (flat_attempt cfg f core now));
       count = now;
     }
 
@@ -72,7 +76,7 @@ entered_count cfg f (event ∷ events) =
 -- the event does something that isn't built
 abbrev pub is_event_unbuilt : Config → Flat → FlatEvent → Bool
 is_event_unbuilt cfg f (Step core now) =
-    runs cfg f core && is_unbuilt (by_map cfg core) f.bytes (core_at f.cores core)
+    runs cfg f core && is_none (flat_attempt cfg f core now)
 is_event_unbuilt cfg f (Wrote stores) = false
 
 -- the number of the first event that does something that isn't built, counted on from a number

@@ -2,7 +2,6 @@ pub mod Config
 pub mod Sample
 pub mod Map
 pub mod Stage2
-pub mod Instruction
 pub mod Attempt
 pub mod Machine
 pub mod Flat

@@ -3,7 +3,8 @@ use Rattle.std.specs.Prelude.{ℕ, ◌==◌, Bool, true, false, if◌then◌else
 use Rattle.std.specs.List.{position_from}
 use Rattle.board.specs.Config.{Config, Vm}
 use Rattle.board.specs.Map.{Kind, Ram, Port, Window, Hole, kind_at, has_core}
-use Rattle.board.specs.Flat.{Flat, FlatEvent, Step, Wrote, runs, flat_step, flat_run, boot}
+use Rattle.board.specs.Attempt.{stored_of}
+use Rattle.board.specs.Flat.{Flat, FlatEvent, Step, Wrote, runs, flat_attempt, flat_step, flat_run, boot}
 
 -- the configuration with this VM as its only one; the platform, the hypervisor's range and the shared memories stay
 abbrev pub only : Config → ℕ → Config
@@ -25,15 +26,15 @@ abbrev pub as_event : List (ℕ × ℕ) → List FlatEvent
 as_event [] = []
 as_event (store ∷ stores) = Wrote (store ∷ stores) ∷ []
 
--- the bytes that a step stores, each with its address. No instruction that is built stores one
-abbrev pub stored : Config → Flat → ℕ → List (ℕ × ℕ)
-stored cfg f core = []
+-- the bytes that a step stores, each with its address, in order
+abbrev pub stored : Config → Flat → ℕ → ℕ → List (ℕ × ℕ)
+stored cfg f core now = stored_of (flat_attempt cfg f core now)
 
 -- what an event of another brings into the VM's run: the bytes that it stores in the VM's windows
 abbrev pub emitted : Config → Flat → ℕ → FlatEvent → List FlatEvent
 emitted cfg f v (Step core now) =
     if runs cfg f core
-    then as_event (filter (λ store. is_in_window cfg (slice_get cfg.vms v) store.0) (stored cfg f core))
+    then as_event (filter (λ store. is_in_window cfg (slice_get cfg.vms v) store.0) (stored cfg f core now))
     else []
 emitted cfg f v (Wrote stores) = []
 

@@ -1,14 +1,15 @@
 -- The state of a board, as the hypervisor sees it, and what each call makes of it.
-use Rattle.std.specs.Prelude.{◌≡◌, ℕ, ◌+◌, ◌-◌, ◌<◌, ◌≤◌, ◌&&◌, ◌⊎◌, nat_le, nat_lt, Bool, true, if◌then◌else◌, IsTrue, List, [], ◌∷◌, All, map, length, replicate, slice_index, slice_index_or, slice_set}
+use Rattle.std.specs.Prelude.{◌≡◌, ℕ, ◌+◌, ◌-◌, ◌<◌, ◌≤◌, ◌==◌, ◌&&◌, ◌⊎◌, nat_le, nat_lt, Bool, true, if◌then◌else◌, IsTrue, Option, is_none, List, [], ◌∷◌, All, map, length, replicate, slice_index, slice_index_or, slice_set}
 use Rattle.std.specs.List.{list_any}
 use Rattle.bao_types.specs.declared.range.ByteRange.{ByteRange}
 use Rattle.bao_types.specs.declared.region.Region.{Region}
 use Rattle.bao_types.specs.Region.{IsCovered, IsEnabled, IsExecuteNever, access_permission}
+use Rattle.bao_types.specs.declared.shape.PortSpot.{PortSpot}
 use Rattle.bao_types.specs.Shape.{ShapeData}
 use Rattle.a64_state.specs.Core.{CoreData}
 use Rattle.a64_state.specs.Registers.{reset_core}
 use Rattle.board.specs.Stage2.{by_entries}
-use Rattle.board.specs.Attempt.{is_unbuilt, core_after}
+use Rattle.board.specs.Attempt.{Reach, reach_of, Effect, attempt, core_of, stored_of}
 use Rattle.board.specs.Map.{is_within}
 
 -- bytes is all memory by address, 0 outside the used ranges; entries are each core's EL2 protection regions; console is what each
@@ -40,8 +41,11 @@ abbrev pub is_used : ShapeData → ℕ → Bool
 is_used shape at = list_any (λ range. is_within range at) shape.used
 
 -- the byte is one of a port's 64
+abbrev pub is_port_of : List PortSpot → ℕ → Bool
+is_port_of ports at = list_any (λ port. is_within (record { base = port.base; size = 64 }) at) ports
+
 abbrev pub is_port : ShapeData → ℕ → Bool
-is_port shape at = list_any (λ port. is_within (record { base = port.base; size = 64 }) at) shape.ports
+is_port shape = is_port_of shape.ports
 
 -- what a board can be fitted with today: one bank of at most 64 MiB, which ends at or below 2^48 and holds the used
 -- ranges, and cores of at most 32 entries
@@ -74,6 +78,15 @@ abbrev pub over : ℕ → List ℕ → (ℕ → ℕ) → ℕ → ℕ
 over from bytes old at =
     if nat_le from at && nat_lt at (from + length bytes) then slice_index bytes (at - from) else old at
 
+-- memory with one byte written
+abbrev pub with_byte : ℕ → ℕ → (ℕ → ℕ) → ℕ → ℕ
+with_byte at value old place = if place == at then value else old place
+
+-- memory after these bytes are written, in order
+abbrev pub written : List (ℕ × ℕ) → (ℕ → ℕ) → ℕ → ℕ
+written [] bytes = bytes
+written (store ∷ stores) bytes = written stores (with_byte store.0 store.1 bytes)
+
 -- each of so many bytes from an address on is in use
 abbrev pub AreUsed : ShapeData → ℕ → ℕ → Type 0
 AreUsed shape from count = (at : ℕ) → from ≤ at → at < from + count → IsTrue (is_used shape at)
@@ -95,15 +108,24 @@ core_started shape core pc arg =
     let fresh = reset_core (slice_index_or shape.cores core (record { entries = 0; affinity = 0 })).affinity
     in record fresh { x = slice_set fresh.x 0 arg; pc = pc }
 
--- the core's next step is one that isn't built
-abbrev pub step_is_unbuilt : Machine → ℕ → Bool
-step_is_unbuilt m core = is_unbuilt (by_entries (entries_at m.entries core)) m.bytes (core_at m.cores core)
+-- what a core reaches by its entries
+abbrev pub machine_reach : Machine → ℕ → Reach
+machine_reach m core = reach_of (by_entries (entries_at m.entries core)) (is_port m.shape) m.bytes
+
+-- what the core's next step does at a count
+abbrev pub step_attempt : Machine → ℕ → ℕ → Option Effect
+step_attempt m core now = attempt (machine_reach m core) (core_at m.cores core) now
+
+-- that step isn't built
+abbrev pub step_is_unbuilt : Machine → ℕ → ℕ → Bool
+step_is_unbuilt m core now = is_none (step_attempt m core now)
 
 -- after a step of the core that is handed a count
 abbrev pub stepped : Machine → ℕ → ℕ → Machine
 stepped m core now =
     record m {
-      cores = slice_set m.cores core (core_after (by_entries (entries_at m.entries core)) m.bytes (core_at m.cores core));
+      bytes = written (stored_of (step_attempt m core now)) m.bytes;
+      cores = slice_set m.cores core (core_of (core_at m.cores core) (step_attempt m core now));
       count = now;
       entered = m.entered + 1;
       spent = m.spent + 1;

@@ -44,6 +44,10 @@ map_of cfg vm =
     map region_entry vm.regions ++ filter_map (dev_entry cfg) vm.devs ++ filter_map (ipc_entry cfg) vm.ipcs
     ++ map guard_entry vm.guards
 
+-- the byte is one of the 64 of a port of the platform
+abbrev pub is_platform_port : Config → ℕ → Bool
+is_platform_port cfg at = list_any (λ port. is_within (record { base = port.base; size = 64 }) at) cfg.platform.ports
+
 -- the kind that an entry gives, where there is one
 abbrev pub kind_of : Option MapEntry → Kind
 kind_of None = Hole

@@ -10,7 +10,7 @@ use std::alloc::Global;
 pub enum Exit {
     /// The core has executed one instruction.
     Ran,
-    /// The core would have done something that the machine hasn't built yet. Its registers are as before.
+    /// The core would have done something that the machine hasn't built yet. Its registers and memory are as before.
     Unbuilt,
 }
 
@@ -73,7 +73,7 @@ pub trait Board {
         requires core { core < length (state self.old).shape.cores }
         requires spent { (state self.old).spent < (state self.old).shape.events }
         ensures state { state self.new ≡ stepped (state self.old) core now }
-        ensures exit { result ≡ (if step_is_unbuilt (state self.old) core then Exit.Unbuilt else Exit.Ran) };
+        ensures exit { result ≡ (if step_is_unbuilt (state self.old) core now then Exit.Unbuilt else Exit.Ran) };
 
     /// The byte at an address: 0 where no memory is in use.
     fn byte_at(&self, at: u64) -> u8

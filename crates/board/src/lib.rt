@@ -6,9 +6,7 @@
 #![tactic(auto)]
 
 pub use board::{Board, Exit};
-pub use instruction::execute;
 pub use view::CoreView;
 
 mod board;
-mod instruction;
 mod view;
