@@ -1,12 +1,13 @@
 -- Bytes of a bank, by address.
-use Rattle.std.proofs.Common.{◌≡◌, ℕ, ◌+◌, ◌-◌, ◌<◌, ◌≤◌, List, ◌++◌, length, get_or, take, drop, Bool, true, false, refl, ap, ◌∙◌, arith, get_or-take, get_or-drop, length-append, length-take}
-use Rattle.std.specs.Prelude.{IsTrue, nat_le, nat_lt, slice_index}
+use Rattle.std.proofs.Common.{◌≡◌, ◌≢◌, ℕ, ◌+◌, ◌-◌, ◌<◌, ◌≤◌, List, ◌++◌, length, get_or, take, drop, set, Bool, true, false, refl, sym, ap, subst, ◌∙◌, arith, get_or-take, get_or-drop, length-append, length-take}
+use Rattle.std.specs.Prelude.{IsTrue, ◌==◌, nat_le, nat_lt, slice_index}
 use Rattle.std.proofs.lemmas.Bool.Decides.{nat_tests}
 use Rattle.std.proofs.Math.ListN.{get_or-append}
-use Rattle.std.proofs.lemmas.List.{get_or-append_right}
+use Rattle.std.proofs.lemmas.List.{get_or-append_right, get_or-set_other}
+use Rattle.std.proofs.lemmas.Grind.{get_or-set_at}
 use Rattle.bao_types.specs.declared.range.ByteRange.{ByteRange}
 use Rattle.board.specs.Map.{is_within}
-use Rattle.board.specs.Machine.{over}
+use Rattle.board.specs.Machine.{over, with_byte}
 use Rattle.sim_board.specs.Memory.{bank_bytes}
 
 -- what the test of a range says
@@ -103,3 +104,26 @@ bank_bytes-zeros bank memory zeros = λ i a. zero_at a (is_within bank a) refl i
     zero_at : (a : ℕ) (within : Bool) → is_within bank a ≡ within → bank_bytes bank memory a ≡ 0
     zero_at a true w = rw w (zeros (a - bank.base))
     zero_at a false w = rw w refl
+
+-- a bank with one byte set
+module _ (bank : ByteRange) (memory : List ℕ) (at value : ℕ) (size : length memory ≡ bank.size)
+    (held : IsTrue (is_within bank at)) where
+  set_at : (a : ℕ) (within same : Bool) → is_within bank a ≡ within → (a == at) ≡ same
+      → bank_bytes bank (set memory (at - bank.base) value) a ≡ with_byte at value (bank_bytes bank memory) a
+  set_at a true true w s =
+      let e : a ≡ at = grind (arith, nat_tests) in let inside = within_bounds bank at held in
+      let place : a - bank.base ≡ at - bank.base = omega arith in
+      let low : at - bank.base < length memory = omega (arith, inside.0, inside.1, size) in
+      rw (w, s) (get_or-set_at memory (at - bank.base) (a - bank.base) value 0 place low)
+  set_at a true false w s =
+      let inside = within_bounds bank at held in let here = within_bounds bank a w in
+      let other : a ≢ at = grind (arith, nat_tests) in
+      rw (w, s) (get_or-set_other memory (at - bank.base) (a - bank.base) value 0
+      (λ same. other (omega (arith, inside.0, here.0, same))))
+  set_at a false true w s =
+      let e : a ≡ at = grind (arith, nat_tests) in absurd (subst (λ b. is_within bank b ≡ false → ⊥) (sym e) (λ f. cc) w)
+  set_at a false false w s = rw (w, s) refl
+
+  -- memory by address has this one byte written
+  pub bank_bytes-set : bank_bytes bank (set memory (at - bank.base) value) ≡ with_byte at value (bank_bytes bank memory)
+  bank_bytes-set = λ i a. set_at a (is_within bank a) (a == at) refl refl i

@@ -1,3 +1,4 @@
-pub mod Fetched
+pub mod Access
 pub mod Bank
+pub mod Confined
 pub mod Fresh

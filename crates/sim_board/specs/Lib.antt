@@ -1,3 +1,4 @@
 pub mod Memory
+pub mod Guard
 pub mod Sound
 pub mod SimBoard

@@ -5,7 +5,9 @@ ghost use Rattle.board.specs.Machine.{no_region, entries_at};
 ghost use Rattle.sim_board.specs.Memory.{kept};
 ghost use Rattle.sim_board.specs.Sound.{IsSound};
 
-use crate::fetch::{byte_of, step_core};
+use crate::guard::Guard;
+use crate::memory::byte_of;
+use crate::step::step_core;
 use a64_state::Core;
 use arrayvec::ArrayVec;
 use bao_types::{ByteRange, CorePlace, OutOfMemory, Region, Shape};
@@ -27,7 +29,7 @@ pub struct SimBoard {
     count: u64,
     entered: u64,
     spent: u64,
-    ghost sound: { IsSound shape bank (length (kept memory)) (length cores.items) (length entries.items) entered spent },
+    ghost sound: { IsSound shape bank (length (kept memory)) (length cores.items) (map (λ e. e.items) entries.items) entered spent },
 }
 
 impl SimBoard {
@@ -168,11 +170,15 @@ impl Board for SimBoard {
     }
 
     fn step(&mut self, core: u8, now: u64) -> Exit {
-        let Some(memory) = &self.memory else {
+        let Some(memory) = &mut self.memory else {
             unreachable!()
         };
         let at = usize::from(core);
-        let exit = step_core(&mut self.cores[at], &self.entries[at], self.bank, memory);
+        let guard = Guard {
+            entries: &self.entries[at],
+            ports: &self.shape.ports,
+        };
+        let exit = step_core(&mut self.cores[at], self.bank, memory, &guard, now);
         self.count = now;
         self.entered += 1;
         self.spent += 1;

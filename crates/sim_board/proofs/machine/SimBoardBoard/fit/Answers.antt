@@ -1,12 +1,15 @@
-use Rattle.std.proofs.Common.{◌≡◌, ℕ, ap, ◌∙◌, map, replicate, get_or, rules}
+use Rattle.std.proofs.Common.{◌≡◌, ℕ, All, sym, ap, subst, ◌∙◌, length, map, replicate, get_or, rules}
 use Rattle.std.specs.Prelude.{slice_index}
+use Rattle.std.proofs.lemmas.List.{length-map}
 use Rattle.std.proofs.lemmas.Simd.{map-map}
 use Rattle.bao_types.specs.declared.range.ByteRange.{ByteRange}
 use Rattle.bao_types.specs.Shape.{shape_data}
 use Rattle.a64_state.specs.Registers.{reset_core}
 use Rattle.board.specs.Machine.{no_region}
 use Rattle.sim_board.specs.Memory.{bank_bytes}
+use Rattle.sim_board.specs.Sound.{IsConfined}
 use Rattle.sim_board.proofs.Bank.{bank_bytes-zeros}
+use Rattle.sim_board.proofs.Confined.{zeros_are_confined}
 use Rattle.sim_board.proofs.Fresh.{fresh_from}
 use Rattle.sim_board.proofs.machine.SimBoardBoard.fit.Goals as goal
 
@@ -21,3 +24,27 @@ returns-clause-ok c =
     let listed : c.in_ok-entries.entries.items
     ≡ map (λ place. record { items = replicate place.entries no_region }) c.args.shape.now.cores.items = search rules in
     fresh_from _ _ _ _ _ _ _ _ shape bytes cores (ap (map (λ e. e.items)) listed ∙ map-map _ _ _)
+
+pub invariant_of-t-39 : goal.invariant_of-t-39
+invariant_of-t-39 c =
+    let listed : c.in_ok-entries.entries.items
+    ≡ map (λ place. record { items = replicate place.entries no_region }) c.args.shape.now.cores.items = search rules in
+    let lists : map (λ e. e.items) c.in_ok-entries.entries.items
+    ≡ map (λ place. replicate place.entries no_region) c.args.shape.now.cores.items =
+    ap (map (λ e. e.items)) listed ∙ map-map _ _ _ in
+    let copied : shape_data c.in_ok-copy.copy ≡ shape_data c.args.shape.now = search rules in
+    let places : c.in_ok-copy.copy.cores.items ≡ c.args.shape.now.cores.items = ap (λ s. s.cores) copied in
+    let reset : c.in_ok-cores.cores.items ≡ map (λ place. reset_core place.affinity) c.args.shape.now.cores.items =
+    search rules in
+    record {
+      sound = record {
+        memory_size = search rules;
+        bank_end = search rules;
+        used = search rules;
+        cores = ap length reset ∙ length-map _ _ ∙ sym (ap length places);
+        entries_len = ap length lists ∙ length-map _ _ ∙ sym (ap length places);
+        confined = subst (All (All (IsConfined (shape_data c.in_ok-copy.copy)))) (sym lists) (zeros_are_confined (shape_data c.in_ok-copy.copy) _);
+        within = search rules;
+        events = search rules;
+      };
+    }

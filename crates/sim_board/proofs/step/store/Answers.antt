@@ -1,0 +1,11 @@
+use Rattle.std.proofs.Common.{sym, ◌∙◌}
+use Rattle.bao_types.specs.declared.access.Access.TheVariants.{Write}
+use Rattle.board.specs.Map.{is_within}
+use Rattle.sim_board.specs.Guard.{reached}
+use Rattle.sim_board.proofs.Access.{all_from-weaker}
+use Rattle.sim_board.proofs.step.store.Goals as goal
+
+pub store_at-requires-clause-within : goal.store_at-requires-clause-within
+store_at-requires-clause-within c =
+    all_from-weaker (reached c.args.guard.now Write) (is_within c.args.bank) c.requires.contained c.args.shape.now.at
+    c.byte_count-count.result (sym c.reaches_all.ensures ∙ c.if-not-reaches_all.false)
