@@ -1,7 +1,7 @@
-// A loop of 16 instructions that never ends, over 16 KiB behind the image's room: half of them loads and stores.
+// A loop of 16 instructions that never ends, over one KiB behind the image's room: half of them loads and stores.
     .text
 start:
-    mov     x0, #0x8000         // the place: from 0x108000 on, and at 0x10c000 back to it
+    mov     x0, #0x8000         // the place: from 0x108000 on, and at 0x108400 back to it
     movk    x0, #0x10, lsl #16
     mov     x1, #1              // stays odd, so it is never zero
 loop:
@@ -18,6 +18,6 @@ loop:
     ldrh    w7, [x0, #18]
     sub     x7, x7, x6
     str     w7, [x0, #12]
-    and     x0, x0, #~0x4000
+    and     x0, x0, #~0x400
     add     x1, x1, #2
     cbnz    x1, loop
