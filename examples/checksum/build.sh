@@ -12,6 +12,7 @@ aarch64-linux-gnu-gcc -O2 -Wall -Wextra -ffreestanding -nostdlib -static -mgener
     -mstrict-align -fno-pic -no-pie -fno-stack-protector -fno-asynchronous-unwind-tables -Wl,--build-id=none \
     -Wl,--no-warn-rwx-segments -T link.ld -o "$room/a.elf" start.s checksum.c
 aarch64-linux-gnu-objcopy -O binary "$room/a.elf" a.bin
+chmod a-x a.bin
 
 # 1,000 steps, of which the program needs 895 to come to its last instruction
 for digit in {0..9}; do
