@@ -1,0 +1,89 @@
+#!/usr/bin/env bash
+# Measures the proved program and prints three lines: how many steps it makes in a second, the most memory that it had,
+# and how often runs of few and of many steps took memory. `bench.sh IMAGE` measures another image that runs for ever.
+#
+# Outside the gate, and no judge of time. The status is 1 where a run fails, where its report isn't the one that qemu
+# made (bench/expected), or where steps take memory; 2 where nothing could be measured. It wants Debian's packages time
+# and valgrind, and makes the proved program where it isn't there yet.
+#
+# bench/a.bin is made from bench/loop.s by aarch64-linux-gnu-as and aarch64-linux-gnu-objcopy -O binary (binutils 2.40).
+# bench/expected is the report after 1,000,000 steps in qemu-aarch64, as scripts/report-by-qemu.py prints it.
+
+top="$(dirname "$(dirname "$(readlink -f "${BASH_SOURCE[0]}")")")"
+program="$top/crates/bao/out/bao"
+image="$(readlink -f "${1:-$top/scripts/bench/a.bin}")"
+few=1
+some=700000
+many=1000000
+runs=3   # timed ones, of which the fastest counts
+lists=64 # a bound on the times that the schedule's two lists double from few to many
+
+# Reading a schedule fills two lists, which double where they are full: its bytes, and its events. So the number of
+# allocations grows with the schedule, but is the same for some and for many steps: in bytes and in lines these two
+# lie between the same powers of two.
+
+give_up() {
+    echo "bench: $2" >&2
+    exit "$1"
+}
+
+for needed in valgrind /usr/bin/time rt; do
+    command -v "$needed" >/dev/null || give_up 2 "$needed is missing"
+done
+room="$(mktemp -d)" || exit 2
+trap 'rm -rf "$room"' EXIT
+
+# Without words the program tells its usage, so this shows that it was proved, made and run.
+(cd "$top/crates/bao" && rt run </dev/null 2>"$room/said") >"$room/out"
+grep -q '^usage: ' "$room/out" || give_up 2 "rt run made no proved program: $(tail -n 1 "$room/said")"
+
+cd "$room" || exit 2
+cp "$image" a.bin && cp "$top/examples/first/config.toml" . || exit 2
+for steps in "$few" "$some" "$many"; do
+    yes 's 0 0' | head -n "$steps" >"schedule-$steps"
+done
+
+# Now, in microseconds.
+now() {
+    echo "${EPOCHREALTIME/[.,]/}"
+}
+
+# Runs so many steps below the command of the other words. What the program wrote is in out, and its time in took.
+run() {
+    local steps="$1" begin
+    shift
+    begin="$(now)"
+    "$@" "$program" run config.toml "schedule-$steps" </dev/null >out ||
+        give_up 1 "a run of $steps steps failed: $(head -c 200 out)"
+    took=$(($(now) - begin))
+    [[ $(tail -n 1 out) == "done" ]] || give_up 1 "a run of $steps steps put out no whole report"
+}
+
+is_expected() {
+    [[ $image != "$top/scripts/bench/a.bin" ]] || cmp -s out "$top/scripts/bench/expected"
+}
+
+fastest=
+for ((number = 0; number < runs; number++)); do
+    run "$many"
+    is_expected || give_up 1 "the report after $many steps isn't bench/expected"
+    [[ -n $fastest && $took -ge $fastest ]] || fastest="$took"
+done
+
+run "$many" /usr/bin/time -f %M -o memory
+
+# How often a run of so many steps takes memory.
+allocations() {
+    run "$1" valgrind --leak-check=no --log-file=said
+    sed -n 's/.*total heap usage: \([0-9,]*\) allocs.*/\1/p' said | tr -d ,
+}
+
+for_few="$(allocations "$few")" && for_some="$(allocations "$some")" && for_many="$(allocations "$many")" || exit 1
+[[ $for_few -gt 0 && $for_some -gt 0 && $for_many -gt 0 ]] || give_up 2 "valgrind counted no allocation"
+
+echo "steps per second: $((many * 1000000 / fastest)) ($many steps in $((fastest / 1000)) ms, with reading and report)"
+echo "peak memory: $(cat memory) KiB"
+echo "allocations: $for_few with $few step, $for_some with $some steps, $for_many with $many steps"
+
+((for_many == for_some)) || give_up 1 "the steps beyond $some took memory"
+((for_many - for_few <= lists)) || give_up 1 "more allocations came with the steps than the schedule takes"
