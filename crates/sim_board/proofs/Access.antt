@@ -1,9 +1,9 @@
 -- The bytes of an access, one behind the other from an address on.
-use Rattle.std.proofs.Common.{◌≡◌, ℕ, zero, suc, ◌+◌, ◌-◌, ◌*◌, ◌/◌, ◌%◌, ◌^◌, ◌<◌, ◌≤◌, Bool, true, false, List, [], ◌∷◌, set, length, refl, sym, ap, subst, ◌∙◌, arith}
+use Rattle.std.proofs.Common.{◌≡◌, ℕ, zero, suc, ◌+◌, ◌-◌, ◌*◌, ◌/◌, ◌%◌, ◌^◌, ◌<◌, ◌≤◌, Bool, true, false, ◌∷◌, refl, sym, ap, ◌∙◌, arith}
 use Rattle.std.specs.Prelude.{IsTrue, ◌&&◌}
 use Rattle.std.proofs.Math.Nat.{mod-add-mod, pow-suc, pow-le-pow_right}
 use Rattle.std.proofs.Common.{lit<}
-use Rattle.board.specs.Attempt.{next_address, all_from, bytes_from, number_at, stores_from}
+use Rattle.board.specs.Attempt.{next_address, all_from, number_at, stores_from}
 
 -- the address behind one that was counted on
 pub next_of : (at k : ℕ) → next_address ((at + k) % 2 ^ 64) ≡ (at + (k + 1)) % 2 ^ 64

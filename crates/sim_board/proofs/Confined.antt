@@ -1,5 +1,5 @@
 -- Entries that are confined let a guest store in the bank alone.
-use Rattle.std.proofs.Common.{◌≡◌, ℕ, Bool, true, false, List, [], ◌∷◌, filter, All, map, replicate, get_or, refl, lit<}
+use Rattle.std.proofs.Common.{◌≡◌, ℕ, Bool, true, false, List, [], ◌∷◌, All, map, replicate, get_or, refl, lit<}
 use Rattle.std.specs.Prelude.{IsTrue, ◌&&◌, ◌||◌, not, if◌then◌else◌}
 use Rattle.std.proofs.lemmas.List.Elements.{All-filter, All-map, All-replicate, filter_passes}
 use Rattle.bao_types.specs.declared.access.Access.TheVariants.{Write}

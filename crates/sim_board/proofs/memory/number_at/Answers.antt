@@ -23,7 +23,7 @@ loop-k-preserved c =
     let k = c.loop-k.k in let n = c.args.count in let le : k ≤ n = omega (arith, c.loop-k.auto.k, c.from-k.ensures) in
     let bytes = bank_bytes c.args.bank c.args.memory.now in (
       ap (λ b. c.loop-k.value * 256 + b) (c.from.ensures ∙ c.byte_of.ensures)
-      ∙ number-more bytes c.args.at k n c.loop-k.value c.loop-k-test.true le c.loop-k.invariant.0,
+          ∙ number-more bytes c.args.at k n c.loop-k.value c.loop-k-test.true le c.loop-k.invariant.0,
       below-more bytes c.args.at k n c.loop-k.value c.loop-k-test.true le c.from.result c.loop-k.invariant.1
-      (omega (arith, c.from.ensures, c.byte_of.type_inv)),
+          (omega (arith, c.from.ensures, c.byte_of.type_inv)),
     )
