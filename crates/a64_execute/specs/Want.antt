@@ -1,6 +1,6 @@
 -- What an instruction asks of the world: nothing, a load or a store. What it does to the core once it has that is in
 -- Finish.
-use Rattle.std.specs.Prelude.{ℕ, ◌+◌, ◌*◌, ◌^◌, Option, Some, None, Bool, true, false, not, IsTrue, IsFalse, if◌then◌else◌}
+use Rattle.std.specs.Prelude.{ℕ, ◌+◌, ◌*◌, ◌^◌, Option, Some, None, Bool, true, false, IsTrue, IsFalse, if◌then◌else◌}
 use Rattle.a64_state.specs.Core.{CoreData}
 use Rattle.a64_decode.specs.declared.instr.Instr.{Instr}
 use Rattle.a64_decode.specs.declared.instr.Instr.TheVariants.{ExceptionReturn, Exception, MsrImmediate, System, SystemRegister, Pair, LoadStoreUnsigned, LoadStoreIndexed, LoadStoreRegister, Undefined}
