@@ -43,6 +43,11 @@ need_of core instr (Some shape) =
 unfoldable pub wanted : CoreData → Instr → Need
 wanted core instr = need_of core instr (memory_shape core instr)
 
+-- whether what is asked lets an instruction be completed
+abbrev pub can_complete : Need → Bool
+can_complete need.Unbuilt = false
+can_complete _ = true
+
 -- an access of one or two elements of 1, 2, 4 or 8 bytes
 pub record IsAccess (shape : MemShape) : Type 0 where
   pub width : IsWidth shape.width
