@@ -2,8 +2,8 @@ use crate::cases::{
     ADDED, ADDITIONS, CONDITIONS, LOGIC, MOVES, OLD, PRODUCTS, REVERSALS, Row, SPECIAL, STACK,
 };
 use crate::result::write_flags;
-use crate::{alu, is_alu};
-use a64_decode::decode;
+use crate::{alu, holds, is_alu};
+use a64_decode::{Condition, decode};
 use a64_state::{Core, pstate};
 use std::process::Abort;
 
@@ -78,6 +78,44 @@ fn shifts_and_reversals(rt: HostRuntime) {
 fn register_31(rt: HostRuntime) {
     for row in SPECIAL {
         agrees(&rt, row);
+    }
+}
+
+/// Bit n of a row's number says whether the condition holds with n as the flags N, Z, C and V. All other bits of PSTATE
+/// are tried as 0 and as 1.
+#[test]
+fn conditions_of_flags(rt: HostRuntime) {
+    #[rattlefmt::skip]
+    const ROWS: [(&str, Condition, u32); 16] = [
+        // shows                       condition      holds
+        ("EQ: Z",                      Condition::Eq, 0xF0F0),
+        ("NE: not Z",                  Condition::Ne, 0x0F0F),
+        ("CS: C",                      Condition::Cs, 0xCCCC),
+        ("CC: not C",                  Condition::Cc, 0x3333),
+        ("MI: N",                      Condition::Mi, 0xFF00),
+        ("PL: not N",                  Condition::Pl, 0x00FF),
+        ("VS: V",                      Condition::Vs, 0xAAAA),
+        ("VC: not V",                  Condition::Vc, 0x5555),
+        ("HI: C and not Z",            Condition::Hi, 0x0C0C),
+        ("LS: not C, or Z",            Condition::Ls, 0xF3F3),
+        ("GE: N equals V",             Condition::Ge, 0xAA55),
+        ("LT: N differs from V",       Condition::Lt, 0x55AA),
+        ("GT: not Z, N equals V",      Condition::Gt, 0x0A05),
+        ("LE: Z, or N differs from V", Condition::Le, 0xF5FA),
+        ("AL: always",                 Condition::Al, 0xFFFF),
+        ("NV: always too",             Condition::Nv, 0xFFFF),
+    ];
+    for (shows, condition, expected) in ROWS {
+        for flags in 0..16u32 {
+            let high = flags * pstate::V;
+            let holds_then = expected >> flags & 1 == 1;
+            assert_eq!(rt; holds(condition, high), holds_then, "{shows} at {flags}");
+            assert_eq!(rt;
+                holds(condition, high + (pstate::V - 1)),
+                holds_then,
+                "{shows} at {flags}"
+            );
+        }
     }
 }
 

@@ -1,5 +1,5 @@
 -- What a core is after an instruction, once it has what it asked for.
-use Rattle.std.specs.Prelude.{ℕ, Option, Some, None, Bool, if◌then◌else◌}
+use Rattle.std.specs.Prelude.{ℕ, Option, Some, None, if◌then◌else◌}
 use Rattle.a64_state.specs.Core.{CoreData}
 use Rattle.a64_decode.specs.declared.instr.Instr.{Instr}
 use Rattle.a64_alu.specs.Computed.{is_data_processing, computed}

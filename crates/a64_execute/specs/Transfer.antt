@@ -1,5 +1,5 @@
 -- What a load leaves in its registers, and the base that is written back (ARM DDI 0487, "Loads and stores").
-use Rattle.std.specs.Prelude.{ℕ, ◌*◌, ◌/◌, ◌%◌, ◌^◌, Option, Some, None, Bool, if◌then◌else◌}
+use Rattle.std.specs.Prelude.{ℕ, ◌*◌, ◌/◌, ◌%◌, ◌^◌, Option, Some, None, if◌then◌else◌}
 use Rattle.a64_state.specs.Core.{CoreData}
 use Rattle.a64_state.specs.Registers.{with_x}
 use Rattle.a64_decode.specs.Operands.{sign_extend}

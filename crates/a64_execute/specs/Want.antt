@@ -1,6 +1,6 @@
 -- What an instruction asks of the world: nothing, a load or a store. What it does to the core once it has that is in
 -- Finish.
-use Rattle.std.specs.Prelude.{ℕ, ◌+◌, ◌*◌, ◌^◌, Option, Some, None, Bool, true, false, not, IsTrue, IsFalse, if◌then◌else◌}
+use Rattle.std.specs.Prelude.{ℕ, ◌+◌, ◌*◌, ◌^◌, Option, Some, None, Bool, true, false, IsTrue, IsFalse, if◌then◌else◌}
 use Rattle.a64_state.specs.Core.{CoreData}
 use Rattle.a64_decode.specs.declared.instr.Instr.{Instr}
 use Rattle.a64_decode.specs.declared.instr.Instr.TheVariants.{ExceptionReturn, Exception, MsrImmediate, System, SystemRegister, Pair, LoadStoreUnsigned, LoadStoreIndexed, LoadStoreRegister, Undefined}
@@ -43,9 +43,10 @@ need_of core instr (Some shape) =
 unfoldable pub wanted : CoreData → Instr → Need
 wanted core instr = need_of core instr (memory_shape core instr)
 
-abbrev pub is_unbuilt : Need → Bool
-is_unbuilt need.Unbuilt = true
-is_unbuilt _ = false
+-- whether what is asked lets an instruction be completed
+abbrev pub can_complete : Need → Bool
+can_complete need.Unbuilt = false
+can_complete _ = true
 
 -- an access of one or two elements of 1, 2, 4 or 8 bytes
 pub record IsAccess (shape : MemShape) : Type 0 where

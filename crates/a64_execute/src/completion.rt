@@ -1,8 +1,8 @@
-ghost use Rattle.std.specs.Prelude.{◌≡◌, IsTrue, IsFalse};
+ghost use Rattle.std.specs.Prelude.{◌≡◌, IsTrue};
 ghost use Rattle.a64_decode.specs.Lawful.{IsLawful};
 ghost use Rattle.a64_alu.specs.Computed.{is_data_processing, computed};
 ghost use Rattle.a64_address.specs.Shape.{memory_shape, IsWidth};
-ghost use Rattle.a64_execute.specs.Want.{wanted, is_unbuilt};
+ghost use Rattle.a64_execute.specs.Want.{is_built};
 ghost use Rattle.a64_execute.specs.Branch.{advanced};
 ghost use Rattle.a64_execute.specs.Transfer.{transferred};
 ghost use Rattle.a64_execute.specs.Finish.{finished};
@@ -23,7 +23,7 @@ use a64_state::Core;
 #[tactic(auto, unfolding(crate::specs::Finish::finished))]
 pub fn complete(core: &mut Core, now: u64, instr: &Instr, got: u128)
     requires lawful { IsLawful instr.now }
-    requires built { IsFalse (is_unbuilt (wanted core.old instr.now)) }
+    requires built { IsTrue (is_built instr.now) }
     ensures { core.new ≡ finished core.old now instr.now got }
 {
     let _ = now;

@@ -11,4 +11,6 @@ pub use need::{Need, want};
 mod branch;
 mod completion;
 mod need;
+#[cfg(test)]
+mod tests;
 mod transfer;

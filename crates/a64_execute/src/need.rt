@@ -1,8 +1,8 @@
-ghost use Rattle.std.specs.Prelude.{◌≡◌, ◌+◌, ◌*◌, ◌%◌, ◌<◌, ◌^◌, not};
+ghost use Rattle.std.specs.Prelude.{◌≡◌, ◌+◌, ◌*◌, ◌%◌, ◌<◌, ◌^◌};
 ghost use Rattle.a64_decode.specs.Lawful.{IsLawful, IsReg};
 ghost use Rattle.a64_address.specs.Shape.{IsWidth};
 ghost use Rattle.a64_alu.specs.Results.{low_x as low_x_of};
-ghost use Rattle.a64_execute.specs.Want.{is_built as is_built_row, wanted, stored_value as stored_value_of, is_unbuilt, IsNeed};
+ghost use Rattle.a64_execute.specs.Want.{is_built as is_built_row, wanted, stored_value as stored_value_of, can_complete, IsNeed};
 
 use a64_address::{MemShape, shape_of};
 use a64_decode::{Instr, Reg};
@@ -28,7 +28,7 @@ pub enum Need {
 pub fn want(core: &Core, instr: &Instr) -> Need
     requires { IsLawful instr.now }
     ensures need { result ≡ wanted core.now instr.now }
-    ensures unbuilt { is_unbuilt result ≡ not (is_built_row instr.now) }
+    ensures built { can_complete result ≡ is_built_row instr.now }
     ensures bounds { IsNeed result }
 {
     match shape_of(core, instr) {

@@ -20,7 +20,10 @@ pub(crate) fn transfer(core: &mut Core, instr: &Instr, shape: &MemShape, got: u1
 {
     match *instr {
         Instr::LoadLiteral { kind, rt, .. } => {
-            core.write_x(rt.0, literal_value(kind, shape.width, first(got, shape.width)));
+            core.write_x(
+                rt.0,
+                literal_value(kind, shape.width, first(got, shape.width)),
+            );
         }
         Instr::Pair {
             kind,
@@ -39,7 +42,12 @@ pub(crate) fn transfer(core: &mut Core, instr: &Instr, shape: &MemShape, got: u1
         | Instr::LoadStoreRegister { transfer, rt, .. } => {
             load(core, transfer, shape.width, rt, first(got, shape.width));
         }
-        Instr::LoadStoreIndexed { transfer, rn, rt, .. } => {
+        Instr::LoadStoreIndexed {
+            transfer,
+            rn,
+            rt,
+            ..
+        } => {
             load(core, transfer, shape.width, rt, first(got, shape.width));
             write_back(core, rn, shape.back);
         }

@@ -1,6 +1,6 @@
-ghost use Rattle.std.specs.Prelude.{◌≡◌, ◌≤◌, length, if◌then◌else◌, is_none, IsFalse};
+ghost use Rattle.std.specs.Prelude.{◌≡◌, ◌≤◌, length, if◌then◌else◌, is_none, IsTrue};
 ghost use Rattle.a64_decode.specs.Lawful.{IsLawful};
-ghost use Rattle.a64_execute.specs.Want.{wanted, is_unbuilt, bytes_of, IsAccess};
+ghost use Rattle.a64_execute.specs.Want.{is_built, wanted, bytes_of, IsAccess};
 ghost use Rattle.a64_execute.specs.Finish.{finished};
 ghost use Rattle.board.specs.Attempt.{attempt, effect_of, core_of, stored_of, stores_from};
 ghost use Rattle.board.specs.Machine.{written};
@@ -83,7 +83,7 @@ fn execute(
 /// Completes an instruction that has what it asked for.
 fn finish(core: &mut Core, now: u64, instr: &Instr, got: u128) -> Exit
     requires lawful { IsLawful instr.now }
-    requires built { IsFalse (is_unbuilt (wanted core.old instr.now)) }
+    requires built { IsTrue (is_built instr.now) }
     ensures core { core.new ≡ finished core.old now instr.now got }
     ensures exit { result ≡ Exit.Ran }
 {
