@@ -1,4 +1,4 @@
-ghost use Rattle.std.specs.Prelude.{◌≡◌, IsTrue};
+ghost use Rattle.std.specs.Prelude.{◌≡◌, IsTrue, Some, IfSome};
 ghost use Rattle.a64_decode.specs.Lawful.{IsLawful};
 ghost use Rattle.a64_alu.specs.Computed.{is_data_processing, computed};
 ghost use Rattle.a64_address.specs.Shape.{memory_shape, IsWidth};

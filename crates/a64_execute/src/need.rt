@@ -28,8 +28,8 @@ pub enum Need {
 pub fn want(core: &Core, instr: &Instr) -> Need
     requires { IsLawful instr.now }
     ensures need { result ≡ wanted core.now instr.now }
-    ensures built { can_complete result ≡ is_built_row instr.now }
     ensures bounds { IsNeed result }
+    ensures built { can_complete result ≡ is_built_row instr.now }
 {
     match shape_of(core, instr) {
         Some(shape) if shape.store => Need::Store {
