@@ -7,7 +7,7 @@ use std::alloc::Global;
 use std::test::Fail;
 
 /// The configuration that is accepted.
-const CONFIG: &str = "version = 1
+pub(crate) const CONFIG: &str = "version = 1
 [platform]
 banks = [{ base = 0x0, size = 0x200000 }]
 cores = [16]
@@ -54,14 +54,14 @@ end a
 done
 ";
 
-const RUN: [&str; 3] = ["run", "config.toml", "schedule.txt"];
+pub(crate) const RUN: [&str; 3] = ["run", "config.toml", "schedule.txt"];
 
 /// What a call of the program left.
 #[derive(Drop)]
-struct Played {
-    status: Status,
-    text: Vec<u8>,
-    entered: u64,
+pub(crate) struct Played {
+    pub(crate) status: Status,
+    pub(crate) text: Vec<u8>,
+    pub(crate) entered: u64,
 }
 
 fn strings(alloc: Global, texts: &[&str]) -> Result<Vec<String>, Fail> {
@@ -73,7 +73,7 @@ fn strings(alloc: Global, texts: &[&str]) -> Result<Vec<String>, Fail> {
 }
 
 /// The bytes of instruction words.
-fn image_of(alloc: Global, words: &[u32]) -> Result<Vec<u8>, Fail> {
+pub(crate) fn image_of(alloc: Global, words: &[u32]) -> Result<Vec<u8>, Fail> {
     let mut bytes = Vec::new(alloc);
     for word in words {
         bytes.extend_from_slice(&word.to_le_bytes())?;
@@ -82,7 +82,7 @@ fn image_of(alloc: Global, words: &[u32]) -> Result<Vec<u8>, Fail> {
 }
 
 /// A shelf with a configuration, an image and a schedule.
-fn shelf_of(
+pub(crate) fn shelf_of(
     alloc: Global,
     config: &[u8],
     image: Vec<u8>,
@@ -99,7 +99,7 @@ fn shelf_of(
 }
 
 /// Runs the program over a shelf in memory, with a sink that fails at these puts.
-fn play(
+pub(crate) fn play(
     alloc: Global,
     words: &[&str],
     shelf: &mut MemShelf,
@@ -134,112 +134,6 @@ fn first_runs(rt: HostRuntime) -> Result<(), Fail> {
         assert_eq!(rt; played.status, Status::Done);
         assert!(rt; played.text.as_slice() == report.as_bytes());
         assert_eq!(rt; played.entered, entered);
-    }
-    Ok(())
-}
-
-/// A schedule of so many steps.
-fn steps(alloc: Global, count: u32) -> Result<Vec<u8>, Fail> {
-    let mut bytes = Vec::new(alloc);
-    for _ in 0..count {
-        bytes.extend_from_slice(b"s 0 0\n")?;
-    }
-    Ok(bytes)
-}
-
-/// Whether a text has this line.
-fn has_line(text: &[u8], line: &str) -> bool {
-    text.split(|byte| *byte == b'\n')
-        .any(|other| other == line.as_bytes())
-}
-
-#[rattlefmt::skip]
-const PROGRAMS: [(&str, &[u32], u32, [&str; 2]); 24] = [
-    // shows                        words                                              steps  lines of the report
-    ("movz, bits 15 to 0",          &[0xd282_4681],                                       1, ["x1 0000000000001234", "pc 0000000000100004"]),
-    ("movz, bits 31 to 16",         &[0xd2a2_4681],                                       1, ["x1 0000000012340000", ""]),
-    ("movz, bits 47 to 32",         &[0xd2c2_4681],                                       1, ["x1 0000123400000000", ""]),
-    ("movz, bits 63 to 48",         &[0xd2e2_4681],                                       1, ["x1 1234000000000000", ""]),
-    ("movz clears the others",      &[0xd29f_ffe1, 0xd2a2_4681],                          2, ["x1 0000000012340000", ""]),
-    ("movz of the zero register",   &[0xd282_469f],                                       1, ["pc 0000000000100004", "console 0="]),
-    ("movz of the last register",   &[0xd282_469e],                                       1, ["x30 0000000000001234", ""]),
-    ("movk, bits 31 to 16",         &[0xd29f_ffe1, 0xf2a2_4681],                          2, ["x1 000000001234ffff", ""]),
-    ("movk, bits 47 to 32",         &[0xd29f_ffe1, 0xf2c2_4681],                          2, ["x1 000012340000ffff", ""]),
-    ("movk, bits 63 to 48",         &[0xd29f_ffe1, 0xf2e2_4681],                          2, ["x1 123400000000ffff", ""]),
-    ("movk, bits 15 to 0",          &[0xd2ff_ffe1, 0xf282_4681],                          2, ["x1 ffff000000001234", ""]),
-    ("movk replaces its bits",      &[0xd2bf_ffe1, 0xf2a2_4681],                          2, ["x1 0000000012340000", ""]),
-    ("add",                         &[0xd280_00a1, 0x913f_fc22],                          2, ["x2 0000000000001004", "pstate 000003c5"]),
-    ("add, shifted by 12",          &[0xd280_00a1, 0x9140_0422],                          2, ["x2 0000000000001005", ""]),
-    ("add wraps, and sets no flag", &[0xd29f_ffe1, 0xf2bf_ffe1, 0xf2df_ffe1, 0xf2ff_ffe1, 0x9100_0822],
-                                                                                          5, ["x2 0000000000000001", "pstate 000003c5"]),
-    ("add to sp",                   &[0xd280_00a1, 0x9100_003f],                          2, ["sp_el1 0000000000000005", ""]),
-    ("add from sp",                 &[0xd280_00a1, 0x9100_003f, 0x9100_07e3],             3, ["x3 0000000000000006", ""]),
-    ("b forward, over a word",      &[0x1400_0002, 0x0000_0000, 0xd280_00a0],             2, ["x0 0000000000000005", "pc 000000000010000c"]),
-    ("b backward",                  &[0xd280_00a0, 0x17ff_ffff],                          2, ["pc 0000000000100000", ""]),
-    ("b as far as it goes",         &[0x15ff_ffff],                                       1, ["pc 00000000080ffffc", ""]),
-    ("b back as far as it goes",    &[0x1600_0000],                                       1, ["pc fffffffff8100000", ""]),
-    ("nop and yield",               &[0xd503_201f, 0xd503_203f],                          2, ["pc 0000000000100008", "pstate 000003c5"]),
-    ("wfe, wfi, sev and sevl",      &[0xd503_205f, 0xd503_207f, 0xd503_209f, 0xd503_20bf], 4, ["pc 0000000000100010", ""]),
-    ("hints without a name",        &[0xd503_233f, 0xd503_2fff],                          2, ["pc 0000000000100008", ""]),
-];
-
-#[test]
-fn programs(rt: HostRuntime) -> Result<(), Fail> {
-    let alloc = rt.alloc();
-    for (shows, words, count, lines) in PROGRAMS {
-        let schedule = steps(alloc, count)?;
-        let mut shelf = shelf_of(
-            alloc,
-            CONFIG.as_bytes(),
-            image_of(alloc, words)?,
-            &schedule,
-            &[],
-        )?;
-        let played = play(alloc, &RUN, &mut shelf, &[])?;
-        assert_eq!(rt; played.status, Status::Done, "{shows}");
-        for line in lines {
-            assert!(rt;
-                line.is_empty() || has_line(&played.text, line),
-                "{shows}: {line}"
-            );
-        }
-    }
-    Ok(())
-}
-
-#[test]
-fn events_that_are_not_built(rt: HostRuntime) -> Result<(), Fail> {
-    #[rattlefmt::skip]
-    const ROWS: [(&str, &[u32], u32, u32); 12] = [
-        // shows                        words                        steps event
-        ("a word of zeros",             &[0x0000_0000],                 1, 0),
-        ("the second word",             &[0xd280_00a0, 0x0000_0000],    2, 1),
-        ("movz of 32 bits",             &[0x5280_00a0],                 1, 0),
-        ("movn",                        &[0x9280_00a0],                 1, 0),
-        ("add with flags",              &[0xb100_0400],                 1, 0),
-        ("sub",                         &[0xd100_0400],                 1, 0),
-        ("add of 32 bits",              &[0x1100_0400],                 1, 0),
-        ("bl",                          &[0x9400_0000],                 1, 0),
-        ("a barrier",                   &[0xd503_309f],                 1, 0),
-        ("a hint with another target",  &[0xd503_201e],                 1, 0),
-        ("memory with zeros behind",    &[0xd280_00a0],                 3, 1),
-        ("a fetch outside the memory",  &[0x17ff_ffff],                 2, 1),
-    ];
-    let alloc = rt.alloc();
-    for (shows, words, count, event) in ROWS {
-        let schedule = steps(alloc, count)?;
-        let mut shelf = shelf_of(
-            alloc,
-            CONFIG.as_bytes(),
-            image_of(alloc, words)?,
-            &schedule,
-            &[],
-        )?;
-        let played = play(alloc, &RUN, &mut shelf, &[])?;
-        let part = Part::Event(event);
-        assert_eq!(rt; played.status, Status::NotBuilt { part }, "{shows}");
-        let line = format!(in alloc; "not built event {event}\n")?;
-        assert!(rt; played.text.as_slice() == line.as_bytes(), "{shows}");
     }
     Ok(())
 }

@@ -2,7 +2,8 @@ ghost use Rattle.std.specs.Prelude.{◌≡◌, ℕ, List, [], ◌∷◌, slice_i
 ghost use Rattle.board.specs.Sample.{sample};
 ghost use Rattle.board.specs.Machine.{core_at};
 ghost use Rattle.board.specs.Flat.{boot, flat_run, flat_step, first_unbuilt, entered_count, FlatEvent, Step};
-ghost use Rattle.system_tests.specs.WorkedRows.{image, steps};
+ghost use Rattle.board.specs.Lone.{stored};
+ghost use Rattle.system_tests.specs.WorkedRows.{image, storing_image, steps, two_more};
 
 /// By the definitions, three steps of `movz x0, #5` and a branch to itself leave X0 at 5 and PC at the branch; each step
 /// is entered, and all that they do is built.
@@ -11,4 +12,17 @@ pub fn rows()
     ensures x0 { slice_index (core_at (flat_run sample (boot sample (image ∷ [])) steps).cores 0).x 0 ≡ 5 }
     ensures entered { entered_count sample (boot sample (image ∷ [])) steps ≡ 3 }
     ensures built { first_unbuilt sample (boot sample (image ∷ [])) 0 steps ≡ None }
+{}
+
+/// By the definitions, `strh w0, [x1, #2]` stores the two bytes of W0 with the least one first, and nothing else; a load of
+/// the upper one then gives it back.
+pub fn storing_rows()
+    ensures stored { stored sample (flat_run sample (boot sample (storing_image ∷ [])) steps) 0 3
+        ≡ (1081346, 0x34) ∷ (1081347, 0x12) ∷ [] }
+    ensures low { (flat_run sample (flat_run sample (boot sample (storing_image ∷ [])) steps) two_more).bytes 1081346 ≡ 0x34 }
+    ensures high { (flat_run sample (flat_run sample (boot sample (storing_image ∷ [])) steps) two_more).bytes 1081347 ≡ 0x12 }
+    ensures behind { (flat_run sample (flat_run sample (boot sample (storing_image ∷ [])) steps) two_more).bytes 1081348 ≡ 0 }
+    ensures x2 { slice_index (core_at
+        (flat_run sample (flat_run sample (boot sample (storing_image ∷ [])) steps) two_more).cores 0).x 2 ≡ 0x12 }
+    ensures built { first_unbuilt sample (flat_run sample (boot sample (storing_image ∷ [])) steps) 3 two_more ≡ None }
 {}

@@ -1,0 +1,89 @@
+//! What the EL2 entries let a core do, on the machine alone: other entries than those of the accepted configuration.
+
+use bao_types::{ByteRange, CorePlace, PortSpot, Region, Shape};
+use board::{Board, Exit};
+use sim_board::SimBoard;
+use std::alloc::Global;
+use std::test::Fail;
+
+/// The lower half of the memory: reading, writing and execution.
+const LOWER: Region = Region {
+    base: 0x10_0004,
+    limit: 0x10_7fc1,
+};
+
+/// The upper half, with the same accesses.
+const UPPER: Region = Region {
+    base: 0x10_8004,
+    limit: 0x10_ffc1,
+};
+
+/// The upper half, to be read alone.
+const UPPER_READ: Region = Region {
+    base: 0x10_800e,
+    limit: 0x10_ffc1,
+};
+
+/// Four bytes below the border of the halves.
+const BORDER: u64 = 0x10_7ffc;
+
+/// `orr x2, x0, x0, lsl #32`, `stur x2, [x0]` and `ldur x3, [x0]`: X0 as both words of a number that is stored at X0.
+const PROGRAM: [u8; 12] = [
+    0x02, 0x80, 0x00, 0xaa, 0x02, 0x00, 0x00, 0xf8, 0x03, 0x00, 0x40, 0xf8,
+];
+
+/// One core, and 64 KiB of memory in use.
+fn shape() -> Shape {
+    let mut shape = Shape::default();
+    shape.events = 8;
+    shape.banks.push(ByteRange {
+        base: 0,
+        size: 0x20_0000,
+    });
+    shape.cores.push(CorePlace {
+        entries: 16,
+        affinity: 0,
+    });
+    shape.used.push(ByteRange {
+        base: 0x10_0000,
+        size: 0x1_0000,
+    });
+    shape
+}
+
+#[test]
+fn across_two_entries_of_equal_access(rt: HostRuntime) -> Result<(), Fail> {
+    let alloc = rt.alloc();
+    let mut board = SimBoard::new(alloc);
+    board.fit(alloc, &shape())?;
+    board.load(0x10_0000, &PROGRAM);
+    board.set_entry(0, 0, LOWER);
+    board.set_entry(0, 1, UPPER);
+    board.reset_core(0, 0x10_0000, BORDER);
+    assert_eq!(rt; board.step(0, 0), Exit::Ran);
+    assert_eq!(rt; board.step(0, 0), Exit::Ran);
+    assert_eq!(rt; board.step(0, 0), Exit::Ran);
+    assert_eq!(rt; board.core_view(0).x[3], 0x0010_7ffc_0010_7ffc);
+    assert_eq!(rt; board.byte_at(BORDER), 0xfc);
+    assert_eq!(rt; board.byte_at(BORDER + 4), 0xfc);
+    Ok(())
+}
+
+#[test]
+fn into_an_entry_that_is_only_read(rt: HostRuntime) -> Result<(), Fail> {
+    let alloc = rt.alloc();
+    let mut board = SimBoard::new(alloc);
+    board.fit(alloc, &shape())?;
+    board.load(0x10_0000, &PROGRAM);
+    board.set_entry(0, 0, LOWER);
+    board.set_entry(0, 1, UPPER_READ);
+    board.reset_core(0, 0x10_0000, BORDER);
+    assert_eq!(rt; board.step(0, 0), Exit::Ran);
+    // The bytes in the lower half may be written, those behind the border not: none is.
+    assert_eq!(rt; board.step(0, 0), Exit::Unbuilt);
+    assert_eq!(rt; board.byte_at(BORDER), 0);
+    assert_eq!(rt; board.byte_at(BORDER + 3), 0);
+    assert_eq!(rt; board.byte_at(BORDER + 4), 0);
+    assert_eq!(rt; board.core_view(0).pc, 0x10_0004);
+    Ok(())
+}

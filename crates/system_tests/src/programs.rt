@@ -1,0 +1,186 @@
+//! Guests that the whole program runs, each by the lines of its report. The expected lines were worked out by hand; those
+//! of whole programs and of loads and stores were compared with what scripts/report-by-qemu.py prints.
+
+use crate::tests::{CONFIG, Played, RUN, image_of, play, shelf_of};
+use report::{Part, Status};
+use std::alloc::Global;
+use std::test::Fail;
+
+/// What a program of so many steps left.
+fn run_words(alloc: Global, words: &[u32], count: u32) -> Result<Played, Fail> {
+    let mut schedule = Vec::new(alloc);
+    for _ in 0..count {
+        schedule.extend_from_slice(b"s 0 0\n")?;
+    }
+    let image = image_of(alloc, words)?;
+    let mut shelf = shelf_of(alloc, CONFIG.as_bytes(), image, &schedule, &[])?;
+    play(alloc, &RUN, &mut shelf, &[])
+}
+
+/// Whether a text has this line; an empty one is none.
+fn has_line(text: &[u8], line: &str) -> bool {
+    line.is_empty()
+        || text
+            .split(|byte| *byte == b'\n')
+            .any(|other| other == line.as_bytes())
+}
+
+#[rattlefmt::skip]
+const PROGRAMS: [(&str, &[u32], u32, [&str; 2]); 32] = [
+    // shows                        words                                              steps  lines of the report
+    ("movz, bits 15 to 0",          &[0xd282_4681],                                       1, ["x1 0000000000001234", "pc 0000000000100004"]),
+    ("movz, bits 31 to 16",         &[0xd2a2_4681],                                       1, ["x1 0000000012340000", ""]),
+    ("movz, bits 47 to 32",         &[0xd2c2_4681],                                       1, ["x1 0000123400000000", ""]),
+    ("movz, bits 63 to 48",         &[0xd2e2_4681],                                       1, ["x1 1234000000000000", ""]),
+    ("movz clears the others",      &[0xd29f_ffe1, 0xd2a2_4681],                          2, ["x1 0000000012340000", ""]),
+    ("movz of the zero register",   &[0xd282_469f],                                       1, ["pc 0000000000100004", "console 0="]),
+    ("movz of the last register",   &[0xd282_469e],                                       1, ["x30 0000000000001234", ""]),
+    ("movk, bits 31 to 16",         &[0xd29f_ffe1, 0xf2a2_4681],                          2, ["x1 000000001234ffff", ""]),
+    ("movk, bits 47 to 32",         &[0xd29f_ffe1, 0xf2c2_4681],                          2, ["x1 000012340000ffff", ""]),
+    ("movk, bits 63 to 48",         &[0xd29f_ffe1, 0xf2e2_4681],                          2, ["x1 123400000000ffff", ""]),
+    ("movk, bits 15 to 0",          &[0xd2ff_ffe1, 0xf282_4681],                          2, ["x1 ffff000000001234", ""]),
+    ("movk replaces its bits",      &[0xd2bf_ffe1, 0xf2a2_4681],                          2, ["x1 0000000012340000", ""]),
+    ("add",                         &[0xd280_00a1, 0x913f_fc22],                          2, ["x2 0000000000001004", "pstate 000003c5"]),
+    ("add, shifted by 12",          &[0xd280_00a1, 0x9140_0422],                          2, ["x2 0000000000001005", ""]),
+    ("add wraps, and sets no flag", &[0xd29f_ffe1, 0xf2bf_ffe1, 0xf2df_ffe1, 0xf2ff_ffe1, 0x9100_0822],
+                                                                                          5, ["x2 0000000000000001", "pstate 000003c5"]),
+    ("add to sp",                   &[0xd280_00a1, 0x9100_003f],                          2, ["sp_el1 0000000000000005", ""]),
+    ("add from sp",                 &[0xd280_00a1, 0x9100_003f, 0x9100_07e3],             3, ["x3 0000000000000006", ""]),
+    ("b forward, over a word",      &[0x1400_0002, 0x0000_0000, 0xd280_00a0],             2, ["x0 0000000000000005", "pc 000000000010000c"]),
+    ("b backward",                  &[0xd280_00a0, 0x17ff_ffff],                          2, ["pc 0000000000100000", ""]),
+    ("b as far as it goes",         &[0x15ff_ffff],                                       1, ["pc 00000000080ffffc", ""]),
+    ("b back as far as it goes",    &[0x1600_0000],                                       1, ["pc fffffffff8100000", ""]),
+    ("nop and yield",               &[0xd503_201f, 0xd503_203f],                          2, ["pc 0000000000100008", "pstate 000003c5"]),
+    ("wfe, wfi, sev and sevl",      &[0xd503_205f, 0xd503_207f, 0xd503_209f, 0xd503_20bf], 4, ["pc 0000000000100010", ""]),
+    ("hints without a name",        &[0xd503_233f, 0xd503_2fff],                          2, ["pc 0000000000100008", ""]),
+    ("bl and ret",                   &[0x9400_0003, 0xd280_0020, 0x1400_0000, 0xd280_0042, 0xd65f_03c0],
+                                                                                          4, ["x30 0000000000100004", "x0 0000000000000001"]),
+    ("blr to its own link",          &[0x1000_007e, 0xd63f_03c0, 0x1400_0000, 0xd503_201f],
+                                                                                          2, ["x30 0000000000100008", "pc 000000000010000c"]),
+    ("a loop by cbnz",               &[0xd280_0140, 0xd280_0001, 0x8b00_0021, 0xd100_0400, 0xb5ff_ffc0, 0x1400_0000],
+                                                                                          33, ["x1 0000000000000037", "pc 0000000000100014"]),
+    ("tbz of the highest bit",       &[0x9280_0000, 0xb6f8_0040, 0xd280_0021, 0xd503_201f],
+                                                                                          4, ["x1 0000000000000001", "x0 ffffffffffffffff"]),
+    ("b.lt, taken",                  &[0xd280_0020, 0xf100_0800, 0x5400_004b, 0xd280_0021, 0xd503_201f],
+                                                                                          4, ["pc 0000000000100014", "pstate 800003c5"]),
+    ("b.hs, not taken",              &[0xd280_0020, 0xf100_0800, 0x5400_0042, 0xd280_0021, 0xd503_201f],
+                                                                                          4, ["x1 0000000000000001", "pc 0000000000100010"]),
+    ("udiv and msub",                &[0xd280_0c80, 0xd280_00e1, 0x9ac1_0802, 0x9b01_8043],
+                                                                                          4, ["x2 000000000000000e", "x3 0000000000000002"]),
+    ("barriers and a prefetch",      &[0xd503_3f9f, 0xd503_3bbf, 0xd503_3fdf, 0xd503_3f5f, 0xf980_0000],
+                                                                                          5, ["pc 0000000000100014", "pstate 000003c5"]),
+];
+
+/// Puts 0x108000 into X1 and 0x1122_3344_5566_7788 into X0.
+const PLACE_AND_NUMBER: [u32; 6] = [
+    0xd290_0001,
+    0xf2a0_0201,
+    0xd28e_f100,
+    0xf2aa_acc0,
+    0xf2c6_6880,
+    0xf2e2_2440,
+];
+
+/// Behind `PLACE_AND_NUMBER`, with the steps beyond it.
+#[rattlefmt::skip]
+const LOADS_AND_STORES: [(&str, &[u32], u32, [&str; 2]); 27] = [
+    // shows                          words                                          steps  lines of the report
+    ("stur across a granule",         &[0xf803_c020],                                    1, ["m 0000000000108030 00000000000000000000000088776655", "m 0000000000108040 44332211000000000000000000000000"]),
+    ("ldur across a granule",         &[0xf803_c020, 0xf843_c022],                       2, ["x2 1122334455667788", "x1 0000000000108000"]),
+    ("strb leaves its neighbours",    &[0xf900_0020, 0x3900_0c3f],                       2, ["m 0000000000108000 88776600443322110000000000000000", "x0 1122334455667788"]),
+    ("strh leaves its neighbours",    &[0xf900_0020, 0x7900_043f],                       2, ["m 0000000000108000 88770000443322110000000000000000", ""]),
+    ("str of a W register",           &[0xb900_0420],                                    1, ["m 0000000000108000 00000000887766550000000000000000", ""]),
+    ("stp with pre-index",            &[0xd280_0122, 0xa9bf_0820],                       2, ["m 0000000000107ff0 88776655443322110900000000000000", "x1 0000000000107ff0"]),
+    ("ldp with post-index",           &[0xd280_0122, 0xa900_0820, 0xa8c2_1023],          3, ["x3 1122334455667788", "x4 0000000000000009"]),
+    ("its base",                      &[0xd280_0122, 0xa900_0820, 0xa8c2_1023],          3, ["x1 0000000000108020", ""]),
+    ("stp of W registers",            &[0xd280_0122, 0x2901_0820],                       2, ["m 0000000000108000 00000000000000008877665509000000", ""]),
+    ("ldpsw",                         &[0xf800_2020, 0x6940_0c22],                       2, ["x2 0000000077880000", "x3 0000000033445566"]),
+    ("ldrb",                          &[0xf900_0020, 0x3940_0022],                       2, ["x2 0000000000000088", ""]),
+    ("ldrsb to 64 bits",              &[0xf900_0020, 0x3980_0022],                       2, ["x2 ffffffffffffff88", "pstate 000003c5"]),
+    ("ldrsb to 32 bits",              &[0xf900_0020, 0x39c0_0022],                       2, ["x2 00000000ffffff88", ""]),
+    ("ldrsh to 64 bits",              &[0xf81f_f020, 0x3900_0020, 0x789f_f022],          3, ["x2 ffffffffffff8888", ""]),
+    ("ldrsw",                         &[0xb800_3020, 0xb980_0022],                       2, ["x2 ffffffff88000000", ""]),
+    ("a store changes the next word", &[0x5280_1402, 0x72ba_5002, 0x1000_0043, 0xb900_0062, 0x0000_0000], 5, ["x0 0000000000000005", "m 0000000000100020 43000010620000b9a00080d200000000"]),
+    ("ldr and ldrsw of literals",     &[0x5800_0060, 0x9800_0063, 0x1400_0000, 0x1234_5678, 0x8000_0004], 3, ["x0 8000000412345678", "x3 ffffffff80000004"]),
+    ("offset by lsl",                 &[0xd280_0102, 0xf822_6820],                       2, ["m 0000000000108000 00000000000000008877665544332211", ""]),
+    ("offset by lsl #3",              &[0xd280_0022, 0xf822_7820],                       2, ["m 0000000000108000 00000000000000008877665544332211", ""]),
+    ("offset by uxtw",                &[0x929f_fee2, 0xf2a0_0002, 0xb822_4820],          3, ["m 0000000000108000 00000000000000008877665500000000", "x2 ffffffff00000008"]),
+    ("offset by uxtw #2",             &[0x929f_ffa2, 0xf2a0_0002, 0xb822_5820],          3, ["m 0000000000108000 00000000000000008877665500000000", "x2 ffffffff00000002"]),
+    ("offset by sxtw",                &[0x1280_00e2, 0xb822_c820],                       2, ["m 0000000000107ff0 00000000000000008877665500000000", "x2 00000000fffffff8"]),
+    ("offset by sxtw #1",             &[0x1280_0062, 0x7822_d820],                       2, ["m 0000000000107ff0 00000000000000008877000000000000", ""]),
+    ("offset by sxtx",                &[0x9280_00e2, 0x3822_e820],                       2, ["m 0000000000107ff0 00000000000000008800000000000000", ""]),
+    ("offset by sxtx #3",             &[0x9280_0002, 0xf822_f820],                       2, ["m 0000000000107ff0 00000000000000008877665544332211", ""]),
+    ("a stack",                       &[0x9100_003f, 0xf81f_0fe0, 0xf840_87e2],          3, ["sp_el1 0000000000107ff8", "x2 1122334455667788"]),
+    ("the last bytes of the memory",  &[0xf29f_ff01, 0xf900_0020],                       2, ["m 000000000010fff0 00000000000000008877665544332211", ""]),
+];
+
+#[test]
+fn programs(rt: HostRuntime) -> Result<(), Fail> {
+    let alloc = rt.alloc();
+    for (shows, words, count, lines) in PROGRAMS {
+        let played = run_words(alloc, words, count)?;
+        assert_eq!(rt; played.status, Status::Done, "{shows}");
+        for line in lines {
+            assert!(rt; has_line(&played.text, line), "{shows}: {line}");
+        }
+    }
+    Ok(())
+}
+
+#[test]
+fn loads_and_stores(rt: HostRuntime) -> Result<(), Fail> {
+    let alloc = rt.alloc();
+    for (shows, words, count, lines) in LOADS_AND_STORES {
+        let mut program = PLACE_AND_NUMBER.to_vec(alloc)?;
+        program.extend_from_slice(words)?;
+        let played = run_words(alloc, &program, count + 6)?;
+        assert_eq!(rt; played.status, Status::Done, "{shows}");
+        for line in lines {
+            assert!(rt; has_line(&played.text, line), "{shows}: {line}");
+        }
+    }
+    Ok(())
+}
+
+#[rattlefmt::skip]
+const NOT_BUILT: [(&str, &[u32], u32, u32); 25] = [
+    // shows                           words                                 steps event
+    ("a word of zeros",                &[0x0000_0000],                           1, 0),
+    ("the second word",                &[0xd280_00a0, 0x0000_0000],              2, 1),
+    ("svc",                            &[0xd400_0001],                           1, 0),
+    ("hvc",                            &[0xd400_0002],                           1, 0),
+    ("smc",                            &[0xd400_0003],                           1, 0),
+    ("brk",                            &[0xd420_0000],                           1, 0),
+    ("eret",                           &[0xd69f_03e0],                           1, 0),
+    ("mrs of midr_el1",                &[0xd538_0000],                           1, 0),
+    ("msr of daifset",                 &[0xd503_42df],                           1, 0),
+    ("ic iallu",                       &[0xd508_751f],                           1, 0),
+    ("fmov of a vector register",      &[0x1e20_4000],                           1, 0),
+    ("ldxr",                           &[0xc85f_7c20],                           1, 0),
+    ("a hint with another target",     &[0xd503_201e],                           1, 0),
+    ("memory with zeros behind",       &[0xd280_00a0],                           3, 1),
+    ("a fetch outside the memory",     &[0x17ff_ffff],                           2, 1),
+    ("a fetch from a half word",       &[0xd280_0041, 0xf2a0_0201, 0xd61f_0020], 4, 3),
+    ("a load of the hypervisor's",     &[0xf940_0020],                           1, 0),
+    ("a store to the hypervisor's",    &[0xf900_0020],                           1, 0),
+    ("a load of no memory",            &[0xd2a0_0401, 0xf940_0020],              2, 1),
+    ("a load with one byte outside",   &[0xd29f_ff21, 0xf2a0_0201, 0xf940_0020], 3, 2),
+    ("a store with one byte outside",  &[0xd29f_ff21, 0xf2a0_0201, 0xf900_0020], 3, 2),
+    ("a pair, the second outside",     &[0xd29f_ff01, 0xf2a0_0201, 0xa900_0020], 3, 2),
+    ("a load over the last address",   &[0x9280_0061, 0xf940_0020],              2, 1),
+    ("a load of the console's port",   &[0xd2b3_8121, 0xb940_0020],              2, 1),
+    ("a store to the console's port",  &[0xd2b3_8121, 0xb900_0020],              2, 1),
+];
+
+#[test]
+fn events_that_are_not_built(rt: HostRuntime) -> Result<(), Fail> {
+    let alloc = rt.alloc();
+    for (shows, words, count, event) in NOT_BUILT {
+        let played = run_words(alloc, words, count)?;
+        let part = Part::Event(event);
+        assert_eq!(rt; played.status, Status::NotBuilt { part }, "{shows}");
+        let line = format!(in alloc; "not built event {event}\n")?;
+        assert!(rt; played.text.as_slice() == line.as_bytes(), "{shows}");
+    }
+    Ok(())
+}
