@@ -27,7 +27,7 @@ isolated call (image, (events, done)) = (
   (
     events,
     record {
-      accepted = done.accepted;
+      done = done;
       text = done.text ∙ ap (grown call.taken_before) (report-alone image events done.accepted.runnable);
     },
   ),

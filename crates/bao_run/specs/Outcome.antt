@@ -144,7 +144,8 @@ lone_sections cfg images events v (vm ∷ vms) =
 abbrev pub lone_report : Config → List (List ℕ) → List FlatEvent → List ℕ
 lone_report cfg images events = lone_sections cfg images events 0 cfg.vms ++ done_line
 
--- the isolation of the VMs: the report shows of each what it would show if it were alone
+-- The isolation of the VMs: all was run, and the report shows of each VM what it would show if it were alone. Both are said
+-- of the same image and events.
 pub record IsIsolated (call : Call) (image : List ℕ) (events : List FlatEvent) : Type 0 where
-  pub accepted : IsAccepted call image events
+  pub done : IsDone call image events
   pub text : call.taken_after ≡ grown call.taken_before (lone_report sample (image ∷ []) events)

@@ -1,6 +1,12 @@
 //! What the EL2 entries let a core do, on the machine alone: other entries than those of the accepted configuration.
 
-use bao_types::{ByteRange, CorePlace, PortSpot, Region, Shape};
+ghost use Rattle.std.specs.Prelude.{◌≡◌, true, false, OnOk};
+ghost use Rattle.bao_types.specs.Shape.{shape_data};
+ghost use Rattle.board.specs.Entry.{HasEntryBits};
+ghost use Rattle.board.specs.Machine.{IsSafeEntry};
+ghost use Rattle.board.specs.Sample.{sample_shape};
+
+use bao_types::{ByteRange, CorePlace, OutOfMemory, PortSpot, Region, Shape};
 use board::{Board, Exit};
 use sim_board::SimBoard;
 use std::alloc::Global;
@@ -32,8 +38,10 @@ const PROGRAM: [u8; 12] = [
     0x02, 0x80, 0x00, 0xaa, 0x02, 0x00, 0x00, 0xf8, 0x03, 0x00, 0x40, 0xf8,
 ];
 
-/// One core, and 64 KiB of memory in use.
-fn shape() -> Shape {
+/// One core, 64 KiB of memory in use, and a console.
+fn shape() -> Shape
+    ensures { shape_data result ≡ sample_shape 8 }
+{
     let mut shape = Shape::default();
     shape.events = 8;
     shape.banks.push(ByteRange {
@@ -44,6 +52,12 @@ fn shape() -> Shape {
         entries: 16,
         affinity: 0,
     });
+    shape.ports.push(PortSpot {
+        id: 0,
+        base: 0x9c09_0000,
+        spi: 32,
+        cores: 1,
+    });
     shape.used.push(ByteRange {
         base: 0x10_0000,
         size: 0x1_0000,
@@ -51,38 +65,37 @@ fn shape() -> Shape {
     shape
 }
 
-#[test]
-fn across_two_entries_of_equal_access(rt: HostRuntime) -> Result<(), Fail> {
-    let alloc = rt.alloc();
-    let mut board = SimBoard::new(alloc);
+/// Lets a core take the three steps of `PROGRAM` over the lower half and such an upper half, and answers their exits.
+fn play<B: Board>(alloc: Global, board: &mut B, upper: Region) -> Result<[Exit; 3], OutOfMemory>
+    requires unfitted { (B.state board.old).fitted ≡ false }
+    requires bits { HasEntryBits upper }
+    requires safe { IsSafeEntry (sample_shape 8) upper }
+    ensures fitted { OnOk result ((B.state board.new).fitted ≡ true) }
+    ensures shape { OnOk result ((B.state board.new).shape ≡ sample_shape 8) }
+{
     board.fit(alloc, &shape())?;
     board.load(0x10_0000, &PROGRAM);
     board.set_entry(0, 0, LOWER);
-    board.set_entry(0, 1, UPPER);
+    board.set_entry(0, 1, upper);
     board.reset_core(0, 0x10_0000, BORDER);
-    assert_eq!(rt; board.step(0, 0), Exit::Ran);
-    assert_eq!(rt; board.step(0, 0), Exit::Ran);
-    assert_eq!(rt; board.step(0, 0), Exit::Ran);
-    assert_eq!(rt; board.core_view(0).x[3], 0x0010_7ffc_0010_7ffc);
-    assert_eq!(rt; board.byte_at(BORDER), 0xfc);
-    assert_eq!(rt; board.byte_at(BORDER + 4), 0xfc);
-    Ok(())
+    Ok([board.step(0, 0), board.step(0, 0), board.step(0, 0)])
 }
 
 #[test]
-fn into_an_entry_that_is_only_read(rt: HostRuntime) -> Result<(), Fail> {
+fn across_two_entries(rt: HostRuntime) -> Result<(), Fail> {
     let alloc = rt.alloc();
     let mut board = SimBoard::new(alloc);
-    board.fit(alloc, &shape())?;
-    board.load(0x10_0000, &PROGRAM);
-    board.set_entry(0, 0, LOWER);
-    board.set_entry(0, 1, UPPER_READ);
-    board.reset_core(0, 0x10_0000, BORDER);
-    assert_eq!(rt; board.step(0, 0), Exit::Ran);
-    // The bytes in the lower half may be written, those behind the border not: none is.
-    assert_eq!(rt; board.step(0, 0), Exit::Unbuilt);
+    let exits = play(alloc, &mut board, UPPER)?;
+    assert_eq!(rt; exits, [Exit::Ran, Exit::Ran, Exit::Ran]);
+    assert_eq!(rt; board.byte_at(BORDER), 0xfc);
+    assert_eq!(rt; board.byte_at(BORDER + 4), 0xfc);
+    assert_eq!(rt; board.core_view(0).x[3], 0x0010_7ffc_0010_7ffc);
+
+    // The bytes in the lower half may be written, those behind the border not: none is. The load is allowed.
+    let mut board = SimBoard::new(alloc);
+    let exits = play(alloc, &mut board, UPPER_READ)?;
+    assert_eq!(rt; exits, [Exit::Ran, Exit::Unbuilt, Exit::Unbuilt]);
     assert_eq!(rt; board.byte_at(BORDER), 0);
-    assert_eq!(rt; board.byte_at(BORDER + 3), 0);
     assert_eq!(rt; board.byte_at(BORDER + 4), 0);
     assert_eq!(rt; board.core_view(0).pc, 0x10_0004);
     Ok(())
