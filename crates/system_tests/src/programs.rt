@@ -7,7 +7,7 @@ use std::alloc::Global;
 use std::test::Fail;
 
 /// What a program of so many steps left.
-fn run_words(alloc: Global, words: &[u32], count: u32) -> Result<Played, Fail> {
+fn run_words(alloc: Global, words: &[u32], count: u64) -> Result<Played, Fail> {
     let mut schedule = Vec::new(alloc);
     for _ in 0..count {
         schedule.extend_from_slice(b"s 0 0\n")?;
@@ -118,7 +118,7 @@ const LOADS_AND_STORES: [(&str, &[u32], u32, [&str; 2]); 27] = [
 fn programs(rt: HostRuntime) -> Result<(), Fail> {
     let alloc = rt.alloc();
     for (shows, words, count, lines) in PROGRAMS {
-        let played = run_words(alloc, words, count)?;
+        let played = run_words(alloc, words, u64::from(count))?;
         assert_eq!(rt; played.status, Status::Done, "{shows}");
         for line in lines {
             assert!(rt; has_line(&played.text, line), "{shows}: {line}");
@@ -133,7 +133,7 @@ fn loads_and_stores(rt: HostRuntime) -> Result<(), Fail> {
     for (shows, words, count, lines) in LOADS_AND_STORES {
         let mut program = PLACE_AND_NUMBER.to_vec(alloc)?;
         program.extend_from_slice(words)?;
-        let played = run_words(alloc, &program, count + 6)?;
+        let played = run_words(alloc, &program, 6 + u64::from(count))?;
         assert_eq!(rt; played.status, Status::Done, "{shows}");
         for line in lines {
             assert!(rt; has_line(&played.text, line), "{shows}: {line}");
@@ -176,7 +176,7 @@ const NOT_BUILT: [(&str, &[u32], u32, u32); 25] = [
 fn events_that_are_not_built(rt: HostRuntime) -> Result<(), Fail> {
     let alloc = rt.alloc();
     for (shows, words, count, event) in NOT_BUILT {
-        let played = run_words(alloc, words, count)?;
+        let played = run_words(alloc, words, u64::from(count))?;
         let part = Part::Event(event);
         assert_eq!(rt; played.status, Status::NotBuilt { part }, "{shows}");
         let line = format!(in alloc; "not built event {event}\n")?;
