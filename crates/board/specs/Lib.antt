@@ -4,6 +4,7 @@ pub mod Map
 pub mod Stage2
 pub mod Attempt
 pub mod Machine
+pub mod Reached
 pub mod Flat
 pub mod Lone
 pub mod View

@@ -6,7 +6,9 @@
 #![tactic(auto)]
 
 pub use board::{Board, Exit};
+pub use laws::{a_step_disturbs_nothing_else, a_step_observes_nothing_else};
 pub use view::CoreView;
 
 mod board;
+mod laws;
 mod view;
