@@ -1,6 +1,6 @@
 //! Branches, and the rows that only go on to the next instruction.
 
-ghost use Rattle.std.specs.Prelude.{◌≡◌, ◌/◌, ◌%◌, ◌^◌, ◌<◌, not};
+ghost use Rattle.std.specs.Prelude.{◌≡◌, ◌/◌, ◌%◌, ◌^◌, ◌<◌};
 ghost use Rattle.a64_decode.specs.Lawful.{IsLawful};
 ghost use Rattle.a64_execute.specs.Branch.{advanced, branched, target_of, with_link, at_target_if};
 

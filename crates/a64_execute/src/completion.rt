@@ -1,7 +1,7 @@
-ghost use Rattle.std.specs.Prelude.{◌≡◌, IsTrue, Some, IfSome};
+ghost use Rattle.std.specs.Prelude.{◌≡◌, IsTrue};
 ghost use Rattle.a64_decode.specs.Lawful.{IsLawful};
 ghost use Rattle.a64_alu.specs.Computed.{is_data_processing, computed};
-ghost use Rattle.a64_address.specs.Shape.{memory_shape, IsWidth};
+ghost use Rattle.a64_address.specs.Shape.{IsWidth};
 ghost use Rattle.a64_execute.specs.Want.{is_built};
 ghost use Rattle.a64_execute.specs.Branch.{advanced};
 ghost use Rattle.a64_execute.specs.Transfer.{transferred};

@@ -1,9 +1,9 @@
 //! The registers that a load or a store leaves.
 
-ghost use Rattle.std.specs.Prelude.{◌≡◌, ◌*◌, ◌^◌, ◌<◌, ◌≤◌, ◌-◌, Some};
+ghost use Rattle.std.specs.Prelude.{◌≡◌, ◌*◌, ◌^◌, ◌<◌, ◌-◌, Some};
 ghost use Rattle.a64_decode.specs.Lawful.{IsLawful, IsReg};
 ghost use Rattle.a64_decode.specs.Operands.{sign_extend as sign_extended};
-ghost use Rattle.a64_address.specs.Shape.{IsWidth, memory_shape};
+ghost use Rattle.a64_address.specs.Shape.{IsWidth};
 ghost use Rattle.a64_execute.specs.Transfer.{first_element, second_element, literal_value as literal_value_of, pair_value as pair_value_of, with_element, with_pair, with_back, transferred};
 
 use crate::need::unit;

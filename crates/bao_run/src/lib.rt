@@ -5,6 +5,7 @@
 mod config;
 mod input;
 mod machine;
+mod packing;
 mod reading;
 mod run;
 mod schedule;
@@ -12,5 +13,6 @@ mod sure;
 mod top;
 mod words;
 
+pub use packing::the_packing_realises_the_map;
 pub use sure::complete_over_a_sure_shelf;
 pub use top::run_bao;

@@ -1,7 +1,7 @@
-ghost use Rattle.std.specs.Prelude.{◌≡◌, ◌≤◌, ◌<◌, ◌+◌, ◌∷◌, [], All, OnOk, OnErr, IfErr, Some, None, length, map, replicate, true, false};
+ghost use Rattle.std.specs.Prelude.{◌≡◌, ◌≤◌, ◌<◌, ◌+◌, ◌∷◌, [], length, replicate, true, false};
 ghost use Rattle.bao_types.specs.Shape.{shape_data};
 ghost use Rattle.board.specs.Sample.{sample, sample_shape, sample_packing, zero_entry};
-ghost use Rattle.board.specs.Flat.{project, On, Step, flat_step, flat_run, is_event_unbuilt, is_entered, first_unbuilt, entered_count};
+ghost use Rattle.board.specs.Flat.{project, On, Step, flat_step, is_event_unbuilt};
 ghost use Rattle.bao_run.specs.Schedule.{flat_event, IsOfCoreZero};
 ghost use Rattle.bao_run.specs.Fresh.{fresh_machine, booted_machine, IsReady};
 

@@ -1,4 +1,4 @@
-ghost use Rattle.std.specs.Prelude.{◌≡◌, [], map, string_bytes, length, IsTrue, true, false};
+ghost use Rattle.std.specs.Prelude.{◌≡◌, [], map, string_bytes, length, IsTrue, false};
 ghost use Rattle.bao_run.specs.Schedule.{flat_event};
 ghost use Rattle.report.specs.Status.{is_refusal, refusal_text};
 ghost use Rattle.bao_run.specs.Outcome.{Outcome, IsPut};

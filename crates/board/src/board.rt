@@ -1,4 +1,4 @@
-ghost use Rattle.std.specs.Prelude.{◌≡◌, ◌<◌, ◌≤◌, ◌+◌, ℕ, List, length, slice_get, slice_index, slice_index_or, slice_set, IsTrue, OnOk, OnErr, true, false, if◌then◌else◌};
+ghost use Rattle.std.specs.Prelude.{◌≡◌, ◌<◌, length, slice_index, slice_index_or, slice_set, OnOk, OnErr, true, false, if◌then◌else◌};
 ghost use Rattle.bao_types.specs.Shape.{shape_data};
 
 use crate::CoreView;

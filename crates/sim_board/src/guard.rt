@@ -1,7 +1,6 @@
 ghost use Rattle.std.specs.Prelude.{◌≡◌};
 ghost use Rattle.board.specs.Attempt.{all_from};
 ghost use Rattle.board.specs.Machine.{is_port_of};
-ghost use Rattle.board.specs.Map.{is_within};
 ghost use Rattle.sim_board.specs.Guard.{reached};
 
 use bao_types::{Access, ByteRange, PortSpot, Region, Verdict};

@@ -1,4 +1,4 @@
-ghost use Rattle.std.specs.Prelude.{◌≡◌, ◌+◌, ◌≤◌, ◌<◌, ◌++◌, false, length, slice_set, map, replicate, take, drop, All, IfOk};
+ghost use Rattle.std.specs.Prelude.{◌≡◌, ◌+◌, ◌≤◌, ◌<◌, false, length, slice_set, map, replicate, All, IfOk};
 ghost use Rattle.bao_types.specs.Shape.{shape_data};
 ghost use Rattle.a64_state.specs.Registers.{reset_core};
 ghost use Rattle.board.specs.Machine.{no_region, entries_at};

@@ -1,7 +1,7 @@
-ghost use Rattle.std.specs.Prelude.{◌≡◌, ℕ, List, [], ◌∷◌, slice_index, Some, None};
+ghost use Rattle.std.specs.Prelude.{◌≡◌, [], ◌∷◌, slice_index, Some, None};
 ghost use Rattle.board.specs.Sample.{sample};
 ghost use Rattle.board.specs.Machine.{core_at};
-ghost use Rattle.board.specs.Flat.{boot, flat_run, flat_step, first_unbuilt, entered_count, FlatEvent, Step};
+ghost use Rattle.board.specs.Flat.{boot, flat_run, first_unbuilt, entered_count};
 ghost use Rattle.board.specs.Lone.{stored};
 ghost use Rattle.system_tests.specs.WorkedRows.{image, storing_image, steps, two_more};
 

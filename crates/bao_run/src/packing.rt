@@ -1,0 +1,10 @@
+ghost use Rattle.std.specs.Prelude.{◌≡◌};
+ghost use Rattle.board.specs.Sample.{sample, sample_packing};
+ghost use Rattle.board.specs.Stage2.{by_entries, by_map};
+
+/// The entries that core 0 is given have for each access to each byte the verdict of the configuration's map. The
+/// function does nothing; its contract is the law.
+#[tactic(auto, using(crate::proofs::Refines::realises))]
+pub fn the_packing_realises_the_map()
+    ensures { by_entries sample_packing ≡ by_map sample 0 }
+{}
