@@ -1,0 +1,3 @@
+pub mod Agree
+pub mod Apart
+pub mod Pair
