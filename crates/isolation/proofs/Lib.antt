@@ -6,3 +6,4 @@ pub mod Boot
 pub mod Run
 pub mod Shown
 pub mod Apart
+pub mod Granular

@@ -1,7 +1,7 @@
 ghost use Rattle.std.specs.Prelude.{◌≡◌, ℕ, List, [], ◌∷◌};
 ghost use Rattle.board.specs.Flat.{boot, Step, Wrote};
 ghost use Rattle.board.specs.Lone.{view};
-ghost use Rattle.isolation.specs.Apart.{IsApart};
+ghost use Rattle.isolation.specs.Apart.{IsApart, IsGranular};
 ghost use Rattle.isolation.specs.Pair.{pair, vm_a, vm_b, AreFit, storing, waiting, turns};
 
 /// Two VMs that share a window are apart from each other, whatever their images are, if each fits its place. So the laws
@@ -9,6 +9,8 @@ ghost use Rattle.isolation.specs.Pair.{pair, vm_a, vm_b, AreFit, storing, waitin
 pub fn the_pair_is_apart()
     ensures a { (a b : List ℕ) → AreFit a b → IsApart pair (a ∷ b ∷ []) 0 vm_a }
     ensures b { (a b : List ℕ) → AreFit a b → IsApart pair (a ∷ b ∷ []) 1 vm_b }
+    ensures granular_a { IsGranular pair vm_a }
+    ensures granular_b { IsGranular pair vm_b }
 {}
 
 /// By the definitions, what VM b sees of a run in which VM a stores a byte to the window and one to memory of its own: the
