@@ -23,4 +23,6 @@ pub use document::read_config;
 pub use error::{ConfigError, Spot};
 
 #[cfg(test)]
+mod fault_tests;
+#[cfg(test)]
 mod tests;
