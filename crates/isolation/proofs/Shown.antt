@@ -8,11 +8,11 @@ use Rattle.board.specs.Map.{Kind, Ram, Port, Window, Hole, kind_at, has_core}
 use Rattle.board.specs.Machine.{core_at}
 use Rattle.board.specs.View.{view_of}
 use Rattle.board.specs.Flat.{Flat, boot, flat_run}
-use Rattle.board.specs.Lone.{only, lone}
+use Rattle.board.specs.Lone.{only, view, lone}
 use Rattle.report.specs.Lines.{vm_line, end_line, console_line, memory_line}
-use Rattle.report.specs.Section.{power_line, registers_text, core_text, cores_text, is_console, consoles_text, run_of, is_memory, are_zero, group_text, memory_text, all_groups, vm_text, section_of}
+use Rattle.report.specs.Section.{power_line, registers_text, core_text, cores_text, is_console, consoles_text, run_of, is_memory, are_zero, group_text, memory_text, all_groups, vm_text, section_of, section}
 use Rattle.isolation.specs.Agree.{is_present, Agree}
-use Rattle.isolation.specs.Apart.{IsGranular, ShowsAsIfAlone}
+use Rattle.isolation.specs.Apart.{IsGranular, ShowsAsIfAlone, ShowsNothingElse}
 use Rattle.isolation.proofs.Run.{runs_as_if_alone}
 
 -- memory is in the map
@@ -107,3 +107,17 @@ shows_as_if_alone cfg images events v vm apart granular steps =
     ∙ text_alike cfg vm (flat_run cfg (boot cfg images) events) (lone cfg images events v) agree granular
     ∙ text_same cfg (option_to_list (slice_get cfg.vms v)) vm (lone cfg images events v)
     ∙ sym (ap (λ o. section_of (only cfg v) (lone cfg images events v) (slice_get (option_to_list o) 0)) apart.place)
+
+pub shows_nothing_else : ShowsNothingElse
+shows_nothing_else one other images others events turns v w vm wm apart apart' granular granular' steps steps' part image seen =
+    shows_as_if_alone one images events v vm apart granular steps
+    ∙ ap (λ c. section c (flat_run c (boot c (option_to_list (slice_get images v))) (view one (boot one images) v events)) 0) part
+    ∙ ap
+    (λ i. section (only other w)
+    (flat_run (only other w) (boot (only other w) (option_to_list i)) (view one (boot one images) v events)) 0)
+    image
+    ∙ ap
+    (λ e. section (only other w)
+    (flat_run (only other w) (boot (only other w) (option_to_list (slice_get others w))) e) 0)
+    seen
+    ∙ sym (shows_as_if_alone other others turns w wm apart' granular' steps')

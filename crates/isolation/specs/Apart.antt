@@ -6,7 +6,7 @@ use Rattle.board.specs.Map.{is_within, is_platform_port, kind_at, has_core}
 use Rattle.board.specs.Stage2.{by_map}
 use Rattle.board.specs.Attempt.{reaches}
 use Rattle.board.specs.Flat.{FlatEvent, Step, Wrote, boot, flat_run}
-use Rattle.board.specs.Lone.{only, is_core_of, is_in_window, lone}
+use Rattle.board.specs.Lone.{only, is_core_of, is_in_window, view, lone}
 use Rattle.report.specs.Section.{section}
 use Rattle.isolation.specs.Agree.{IsInMap, Agree}
 
@@ -45,3 +45,14 @@ ShowsAsIfAlone =
     (cfg : Config) (images : List (List ℕ)) (events : List FlatEvent) (v : ℕ) (vm : Vm)
     → IsApart cfg images v vm → IsGranular cfg vm → All IsStep events
     → section cfg (flat_run cfg (boot cfg images) events) v ≡ section (only cfg v) (lone cfg images events v) 0
+
+-- So two runs, be it of two configurations, show the same of a VM where they give it the same: its part of the configuration,
+-- its image, and what it sees. Whatever else the others do differently, no byte of its section tells.
+abbrev pub ShowsNothingElse : Type 0
+ShowsNothingElse =
+    (one other : Config) (images others : List (List ℕ)) (events turns : List FlatEvent) (v w : ℕ) (vm wm : Vm)
+    → IsApart one images v vm → IsApart other others w wm → IsGranular one vm → IsGranular other wm
+    → All IsStep events → All IsStep turns
+    → only one v ≡ only other w → slice_get images v ≡ slice_get others w
+    → view one (boot one images) v events ≡ view other (boot other others) w turns
+    → section one (flat_run one (boot one images) events) v ≡ section other (flat_run other (boot other others) turns) w

@@ -5,7 +5,7 @@
 //! that a program runs: each law is the contract of a function that does nothing.
 #![tactic(auto)]
 
-pub use alone::{a_vm_runs_as_if_alone, a_vm_shows_as_if_alone};
+pub use alone::{a_vm_runs_as_if_alone, a_vm_shows_as_if_alone, a_vm_shows_nothing_else};
 pub use pair::{the_pair_is_apart, what_the_pair_sees};
 
 mod alone;
