@@ -9,9 +9,9 @@ difference, and then the status is 1.
 
 A guest sets all registers and the flags, and then come cases: each is one word of a row of the A64 base integer set
 with random fields, edge values favoured, and the words before it that make its registers fit. After each case both
-reports must be the same, byte by byte. Words that are undefined or unpredictable aren't drawn, nor YIELD, WFE and WFI,
-which qemu takes for a wish of the process. Loads and stores go to the end of the image, where random bytes lie, and
-behind it. Branches lead over some cases, or back to them.
+reports must be the same, byte by byte. Words that are undefined or unpredictable aren't drawn, nor YIELD and WFE, over
+which qemu goes two words in one step. Loads and stores go to the end of the image, where random bytes lie, and behind
+it. Branches lead over some words, or back to them.
 """
 
 import difflib
@@ -122,7 +122,7 @@ PLAIN = [
     Row("10011011 u 10 rm 011111 rn rd"),  # the high halves, whose unused register must be 31
     Row("sf 0011010110 rm opcode:6 rn rd", lambda f: f.opcode in (2, 3, 8, 9, 10, 11)),
     Row("sf 101101011000000 opcode:6 rn rd", lambda f: f.opcode < 6 and (f.sf, f.opcode) != (0, 3)),
-    Row("11010101000000110010 crm:4 op2:3 11111", lambda f: (f.crm, f.op2) not in ((0, 1), (0, 2), (0, 3))),
+    Row("11010101000000110010 crm:4 op2:3 11111", lambda f: (f.crm, f.op2) not in ((0, 1), (0, 2))),
     Row("11010101000000110011 crm:4 op2:3 11111", lambda f: f.op2 in (2, 4, 5, 6)),
 ]
 
