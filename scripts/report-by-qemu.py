@@ -10,6 +10,7 @@ as at the start. So this is for images without exceptions, system registers and 
 error tells after how many steps the PC first stayed where it was.
 """
 
+import contextlib
 import os
 import socket
 import struct
@@ -69,21 +70,32 @@ class Debugger:
         return b"".join(bytes.fromhex(self.ask(b"m%x,%x" % (at, chunk)).decode()) for at in range(BASE, BASE + SIZE, chunk))
 
 
+def start(debugger):
+    """The core as the machine has it at its start."""
+    core = CORE.pack(*[0] * PC, BASE, 0)
+    if debugger.ask(b"G" + core.hex().encode()) != b"OK":
+        sys.exit("qemu took no registers")
+    return debugger.core()
+
+
+def step(debugger, before):
+    """The core a step later."""
+    answer = debugger.ask(b"s")
+    if not answer.startswith(b"T05"):
+        sys.exit(f"at {before[PC]:#x} qemu answered {answer.decode()}")
+    core = debugger.core()
+    if core[PC] == before[PC] and core != before:
+        sys.exit(f"at {core[PC]:#x} a branch to itself changed a register")
+    return core
+
+
 def run(debugger, steps):
     """The core and the memory after so many steps from the machine's start."""
-    start = CORE.pack(*[0] * PC, BASE, 0)
-    if debugger.ask(b"G" + start.hex().encode()) != b"OK":
-        sys.exit("qemu took no registers")
-    core = debugger.core()
-    for step in range(steps):
-        answer = debugger.ask(b"s")
-        if not answer.startswith(b"T05"):
-            sys.exit(f"step {step}: qemu answered {answer.decode()}")
-        before, core = core, debugger.core()
-        if core[PC] == before[PC] and core != before:
-            sys.exit(f"step {step}: a branch to itself changed a register")
+    core = start(debugger)
+    for number in range(steps):
+        before, core = core, step(debugger, core)
         if core[PC] == before[PC]:
-            print(f"the PC stays at {core[PC]:#x} after {step} steps", file=sys.stderr)
+            print(f"the PC stays at {core[PC]:#x} after {number} steps", file=sys.stderr)
             break
     return core, debugger.memory()
 
@@ -99,12 +111,9 @@ def report(core, memory):
     return "\n".join(lines + ["end a", "done", ""])
 
 
-def main():
-    image, schedule = sys.argv[1:]
-    with open(image, "rb") as source:
-        image = source.read()
-    with open(schedule, "rb") as source:
-        steps = len(source.readlines())
+@contextlib.contextmanager
+def debugged(image):
+    """The debugger of a qemu that runs the image."""
     with tempfile.TemporaryDirectory() as room:
         path = os.path.join(room, "program")
         with open(path, "wb") as target:
@@ -113,10 +122,20 @@ def main():
         port = os.path.join(room, "port")
         qemu = subprocess.Popen([os.environ.get("QEMU", "qemu-aarch64"), "-g", port, path])
         try:
-            core, memory = run(Debugger(port), steps)
+            yield Debugger(port)
         finally:
             qemu.kill()
             qemu.wait()
+
+
+def main():
+    image, schedule = sys.argv[1:]
+    with open(image, "rb") as source:
+        image = source.read()
+    with open(schedule, "rb") as source:
+        steps = len(source.readlines())
+    with debugged(image) as debugger:
+        core, memory = run(debugger, steps)
     sys.stdout.write(report(core, memory))
 
 
