@@ -6,8 +6,9 @@
 Outside the gate: it wants qemu-aarch64 (of Debian's package qemu-user), whose path the variable QEMU gives. The image
 lies at 0x100000 in 64 KiB that are otherwise zero, all registers begin as zero, and qemu makes a single step for each
 line of the schedule. qemu runs the image as a Linux process, so of PSTATE it gives the flags alone; all else of it stays
-as at the start. So this is for images without exceptions, system registers and accesses outside that memory. Standard
-error tells after how many steps the PC first stayed where it was.
+as at the start. So this is for images without exceptions, system registers and accesses outside that memory, and
+without YIELD and WFE, over which qemu goes two words in one step. Standard error tells after how many steps the PC
+first stayed where it was.
 """
 
 import contextlib
