@@ -4,7 +4,7 @@ ghost use Rattle.std.specs.Prelude.{◌≡◌, ◌<◌, ◌^◌};
 ghost use Rattle.a64_decode.specs.Lawful.{IsReg};
 ghost use Rattle.a64_decode.specs.Operands.{sign_extend};
 ghost use Rattle.a64_address.specs.Shape.{IsWidth};
-ghost use Rattle.a64_address.specs.Address.{scale_of, pair_scale, literal_scale, plus as sum_of, shifted_left, base_of, extended as extended_as, address_of, back_of};
+ghost use Rattle.a64_address.specs.Address.{scale_of, pair_scale, literal_scale, base_of, extended as extended_as, address_of, back_of};
 
 use a64_decode::{Extend, IndexMode, LiteralKind, PairKind, Reg, Size};
 use a64_state::Core;

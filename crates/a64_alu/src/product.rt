@@ -1,8 +1,7 @@
 //! Products.
 #![tactic(auto, unfolding(crate::specs::Products::product_of))]
 
-ghost use Rattle.std.specs.Prelude.{◌≡◌, ◌≤◌, ◌<◌, ◌%◌, ◌^◌, pos, ◌+ℤ◌, ◌-ℤ◌, ◌*ℤ◌, FitsSigned};
-ghost use Rattle.std.specs.Int.{w64};
+ghost use Rattle.std.specs.Prelude.{◌≡◌, ◌≤◌, ◌%◌, ◌^◌, ◌*ℤ◌};
 ghost use Rattle.bao_types.specs.Bits.{field};
 ghost use Rattle.a64_alu.specs.Numbers.{modulo, as_signed};
 ghost use Rattle.a64_alu.specs.Products.{product_of, signed_words as signed_words_of};

@@ -1,5 +1,6 @@
--- The A64 words of the base integer set (ARM DDI 0487, "A64 Instruction Set Encoding"), without exclusives, atomics
--- and unprivileged accesses. Each row has its parts from bit 31 down; the first row that a word matches decides.
+-- The A64 words of the base integer set (ARM DDI 0487, "A64 Instruction Set Encoding"), without exclusives,
+-- load-acquire and store-release, atomics, unprivileged and non-temporal accesses, and CRC32. Each row has its parts from
+-- bit 31 down; the first row that a word matches decides.
 use Rattle.std.specs.Prelude.{◌≡◌, ◌≢◌, ℕ, ◌+◌, ◌*◌, ◌^◌, ◌<◌, Bool, true, false, not, ◌&&◌, ◌||◌, ◌==◌, nat_lt, if◌then◌else◌, List, [], ◌∷◌}
 use Rattle.bao_types.specs.Bitmask.{is_reserved}
 use Rattle.a64_decode.specs.declared.instr.Instr.{Instr}

@@ -1,5 +1,5 @@
 //! The fields of a word, as what they stand for.
-ghost use Rattle.std.specs.Prelude.{◌≡◌, ℕ, ◌+◌, ◌-◌, ◌*◌, ◌^◌, ◌<◌, ◌≤◌, ◌⊎◌, nat_lt, if◌then◌else◌};
+ghost use Rattle.std.specs.Prelude.{◌≡◌, ◌+◌, ◌-◌, ◌*◌, ◌^◌, ◌<◌, ◌≤◌, ◌⊎◌, nat_lt, if◌then◌else◌};
 ghost use Rattle.bao_types.specs.Bits.{field};
 ghost use Rattle.a64_decode.specs.Operands.{flag as flag_of, reg as reg_of, condition_of, shift_of, extend_of, logical_of, size_of, transfer_of};
 

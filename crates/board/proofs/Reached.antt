@@ -1,5 +1,5 @@
 -- What a step can disturb and observe.
-use Rattle.std.proofs.Common.{◌≡◌, ℕ, zero, suc, ◌/◌, ◌%◌, Bool, true, false, [], ◌∷◌, refl, sym, ap, ◌∙◌, inl, inr, arith}
+use Rattle.std.proofs.Common.{◌≡◌, ℕ, zero, suc, ◌/◌, ◌%◌, Bool, true, false, List, [], ◌∷◌, refl, sym, ap, ◌∙◌, inl, inr, arith}
 use Rattle.std.specs.Prelude.{IsTrue, IsFalse, ◌&&◌, ◌==◌, if◌then◌else◌, Option, None, Some}
 use Rattle.std.proofs.lemmas.Bool.Decides.{nat_tests}
 use Rattle.std.specs.Option.{option_map}
@@ -17,61 +17,78 @@ use Rattle.board.specs.Attempt.{next_address, all_from, bytes_from, number_at, r
 use Rattle.board.specs.Machine.{with_byte, written}
 use Rattle.board.specs.Reached.{DisturbsNothingElse, AreAlike, ObservesNothingElse}
 
--- where all pass, the first does, and the others do
+-- each stored byte passes a test
+unfoldable pub AllStored : (ℕ → Bool) → List (ℕ × ℕ) → Type 0
+AllStored test [] = Unit {0}
+AllStored test (store ∷ stores) = IsTrue (test store.0) × AllStored test stores
+
 split : (b rest : Bool) → IsTrue (b && rest) → IsTrue b × IsTrue rest
 split true rest both = (refl, both)
 split false rest both = cc
 
--- a byte that fails a test which all stored ones pass
-module _ (test : ℕ → Bool) (at : ℕ) (fails : IsFalse (test at)) where
-  other_byte : (place value : ℕ) (bytes : ℕ → ℕ) (same : Bool) → (at == place) ≡ same → IsTrue (test place)
-      → with_byte place value bytes at ≡ bytes at
-  other_byte place value bytes true e passes =
-      let here : at ≡ place = grind (arith, nat_tests) in
-      let clash : true ≡ false = sym passes ∙ sym (ap test here) ∙ fails in cc
-  other_byte place value bytes false e passes = rw e refl
+from_place : (test : ℕ → Bool) (place n value : ℕ) → IsTrue (all_from test place n) → AllStored test (stores_from place n value)
+unfolding AllStored
+from_place test place zero value all = tt
+from_place test place (suc n) value all =
+    let first = split (test place) (all_from test (next_address place) n) all in
+    (first.0, from_place test (next_address place) n (value / 256) first.1)
 
-  stores_leave : (place n value : ℕ) (bytes : ℕ → ℕ) → IsTrue (all_from test place n)
-      → written (stores_from place n value) bytes at ≡ bytes at
-  stores_leave place zero value bytes all = refl
-  stores_leave place (suc n) value bytes all =
-      let first = split (test place) (all_from test (next_address place) n) all in
-      stores_leave (next_address place) n (value / 256) (with_byte place (value % 256) bytes) first.1
-      ∙ other_byte place (value % 256) bytes (at == place) refl first.0
+module _ (stage2 : Stage2) (is_port : ℕ → Bool) (bytes : ℕ → ℕ) (core : CoreData) (now : ℕ) where
+  by_test : (place n value : ℕ) (done : CoreData) (may : Bool) → all_from (reaches stage2 is_port Write) place n ≡ may
+      → AllStored (reaches stage2 is_port Write)
+      (stored_of (if may then Some (record { core = done; stored = stores_from place n value }) else None))
+  unfolding AllStored
+  by_test place n value done true e = from_place (reaches stage2 is_port Write) place n value e
+  by_test place n value done false e = tt
 
-module _ (stage2 : Stage2) (is_port : ℕ → Bool) (bytes : ℕ → ℕ) (core : CoreData) (now at : ℕ)
-    (closed : IsFalse (reaches stage2 is_port Write at)) where
-  by_test : (instr : Instr) (place n value : ℕ) (done : CoreData) (may : Bool)
-      → all_from (reaches stage2 is_port Write) place n ≡ may
-      → written (stored_of (if may then Some (record { core = done; stored = stores_from place n value }) else None)) bytes at
-      ≡ bytes at
-  by_test instr place n value done true e =
-      stores_leave (reaches stage2 is_port Write) at closed place n value bytes e
-  by_test instr place n value done false e = refl
-
-  loaded_stores : (got : Option ℕ) (f : ℕ → CoreData)
-      → written (stored_of (option_map (λ g. record { core = f g; stored = [] }) got)) bytes at ≡ bytes at
-  loaded_stores None f = refl
-  loaded_stores (Some g) f = refl
+  by_got : (got : Option ℕ) (f : ℕ → CoreData)
+      → AllStored (reaches stage2 is_port Write) (stored_of (option_map (λ g. record { core = f g; stored = [] }) got))
+  unfolding AllStored
+  by_got None f = tt
+  by_got (Some g) f = tt
 
   by_need : (instr : Instr) (asked : Need)
-      → written (stored_of (effect_of (reach_of stage2 is_port bytes) core now instr asked)) bytes at ≡ bytes at
-  by_need instr need.Done = refl
-  by_need instr (need.Load shape) = loaded_stores _ _
+      → AllStored (reaches stage2 is_port Write) (stored_of (effect_of (reach_of stage2 is_port bytes) core now instr asked))
+  unfolding AllStored
+  by_need instr need.Done = tt
+  by_need instr (need.Load shape) = by_got _ _
   by_need instr (need.Store shape value) =
-      by_test instr shape.at (bytes_of shape) value _ (all_from (reaches stage2 is_port Write) shape.at (bytes_of shape)) refl
-  by_need instr need.Unbuilt = refl
+      by_test shape.at (bytes_of shape) value _ (all_from (reaches stage2 is_port Write) shape.at (bytes_of shape)) refl
+  by_need instr need.Unbuilt = tt
 
   by_word : (word : Option ℕ)
-      → written (stored_of (word_effect (reach_of stage2 is_port bytes) core now word)) bytes at ≡ bytes at
-  by_word None = refl
+      → AllStored (reaches stage2 is_port Write) (stored_of (word_effect (reach_of stage2 is_port bytes) core now word))
+  unfolding AllStored
+  by_word None = tt
   by_word (Some word) = by_need (decoded word) (wanted core (decoded word))
+
+  -- a step stores where its core may write
+  pub stored_where_it_may : AllStored (reaches stage2 is_port Write)
+      (stored_of (attempt (reach_of stage2 is_port bytes) core now))
+  unfolding attempt
+  stored_where_it_may = by_word ((reach_of stage2 is_port bytes).fetched core.pc)
+
+-- a byte that fails a test which all stored ones pass
+other_byte : (test : ℕ → Bool) (place value at : ℕ) (bytes : ℕ → ℕ) (here : Bool) → (at == place) ≡ here → IsTrue (test place)
+    → IsFalse (test at) → with_byte place value bytes at ≡ bytes at
+other_byte test place value at bytes true e passes fails =
+    let same : at ≡ place = grind (arith, nat_tests) in
+    let clash : true ≡ false = sym passes ∙ sym (ap test same) ∙ fails in cc
+other_byte test place value at bytes false e passes fails = rw e refl
+
+stores_leave : (test : ℕ → Bool) (at : ℕ) → IsFalse (test at) → (stores : List (ℕ × ℕ)) (bytes : ℕ → ℕ) → AllStored test stores
+    → written stores bytes at ≡ bytes at
+unfolding AllStored
+stores_leave test at fails [] bytes all = refl
+stores_leave test at fails (store ∷ stores) bytes all =
+    stores_leave test at fails stores (with_byte store.0 store.1 bytes) all.1
+    ∙ other_byte test store.0 store.1 at bytes (at == store.0) refl all.0 fails
 
 -- a step disturbs nothing else
 pub disturbs_nothing_else : DisturbsNothingElse
-unfolding attempt
 disturbs_nothing_else stage2 is_port bytes core now at closed =
-    by_word stage2 is_port bytes core now at closed ((reach_of stage2 is_port bytes).fetched core.pc)
+    stores_leave (reaches stage2 is_port Write) at closed (stored_of (attempt (reach_of stage2 is_port bytes) core now)) bytes
+    (stored_where_it_may stage2 is_port bytes core now)
 
 -- two memories that are equal where a core may look
 module _ (stage2 : Stage2) (is_port : ℕ → Bool) (one other : ℕ → ℕ) (alike : AreAlike stage2 is_port one other) where

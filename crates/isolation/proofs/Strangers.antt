@@ -13,7 +13,8 @@ use Rattle.board.specs.Flat.{Flat, Step, runs, flat_attempt, flat_stepped, flat_
 use Rattle.board.specs.Lone.{is_core_of, is_in_window, as_event, stored, emitted}
 use Rattle.isolation.specs.Agree.{IsInMap, Agree}
 use Rattle.isolation.specs.Apart.{IsApart}
-use Rattle.isolation.proofs.Stores.{stored_where_it_may, kept_alike}
+use Rattle.board.proofs.Reached.{stored_where_it_may}
+use Rattle.isolation.proofs.Stores.{kept_alike}
 
 -- writes that are an event, or none
 module _ (cfg : Config) (g : Flat) where
