@@ -48,6 +48,17 @@ pair =
       vms = vm_a ∷ vm_b ∷ [];
     }
 
+-- the same, but VM b may also store to memory of VM a
+abbrev pub overlapping : Config
+overlapping =
+    record pair {
+      vms =
+          vm_a
+          ∷ record vm_b {
+            regions = record { range = record { base = 0x108000; size = 0x48000 }; write = true; exec = true } ∷ [];
+          } ∷ [];
+    }
+
 -- images that fit their places
 abbrev pub AreFit : List ℕ → List ℕ → Type 0
 AreFit a b = (length a ≤ 0x8000) × (length b ≤ 0x8000)

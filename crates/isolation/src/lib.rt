@@ -6,7 +6,7 @@
 #![tactic(auto)]
 
 pub use alone::{a_vm_runs_as_if_alone, a_vm_shows_as_if_alone, a_vm_shows_nothing_else};
-pub use pair::{the_pair_is_apart, what_the_pair_sees};
+pub use pair::{an_overlap_is_not_apart, the_pair_is_apart, what_the_pair_sees};
 
 mod alone;
 mod pair;

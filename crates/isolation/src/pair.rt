@@ -2,7 +2,7 @@ ghost use Rattle.std.specs.Prelude.{◌≡◌, ℕ, List, [], ◌∷◌};
 ghost use Rattle.board.specs.Flat.{boot, Step, Wrote};
 ghost use Rattle.board.specs.Lone.{view};
 ghost use Rattle.isolation.specs.Apart.{IsApart, IsGranular};
-ghost use Rattle.isolation.specs.Pair.{pair, vm_a, vm_b, AreFit, storing, waiting, turns};
+ghost use Rattle.isolation.specs.Pair.{pair, overlapping, vm_a, vm_b, AreFit, storing, waiting, turns};
 
 /// Two VMs that share a window are apart from each other, whatever their images are, if each fits its place. So the laws
 /// of this crate speak of them. The function does nothing; its contract is the law.
@@ -11,6 +11,12 @@ pub fn the_pair_is_apart()
     ensures b { (a b : List ℕ) → AreFit a b → IsApart pair (a ∷ b ∷ []) 1 vm_b }
     ensures granular_a { IsGranular pair vm_a }
     ensures granular_b { IsGranular pair vm_b }
+{}
+
+/// A VM isn't apart from one that may store to memory of it that is no window. The function does nothing; its contract
+/// is the law.
+pub fn an_overlap_is_not_apart()
+    ensures { (images : List (List ℕ)) → IsApart overlapping images 0 vm_a → ⊥ }
 {}
 
 /// By the definitions, what VM b sees of a run in which VM a stores a byte to the window and one to memory of its own: the
