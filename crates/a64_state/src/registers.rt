@@ -6,7 +6,7 @@ use std::marker::Model;
 
 /// The system registers of EL1 and EL0 that only keep what is written to them, or that hold the state of an
 /// exception. All names but the last two are those of `_EL1` registers.
-#[derive(Clone, Copy, Debug, PartialEq, Eq)]
+#[derive(Clone, Copy, Debug, Default, PartialEq, Eq)]
 pub struct SysRegs {
     pub sctlr: u64,
     pub cpacr: u64,
@@ -78,21 +78,7 @@ impl Core {
             sp1: 0,
             pc: 0,
             pstate: pstate::RESET,
-            sys: SysRegs {
-                sctlr: 0,
-                cpacr: 0,
-                spsr: 0,
-                elr: 0,
-                esr: 0,
-                far: 0,
-                mair: 0,
-                vbar: 0,
-                contextidr: 0,
-                tpidr: 0,
-                cntkctl: 0,
-                tpidr_el0: 0,
-                tpidrro_el0: 0,
-            },
+            sys: SysRegs::default(),
             regions: RegionFile {
                 select: 0,
                 regions: [Region { base: 0, limit: 0 }; 16],
