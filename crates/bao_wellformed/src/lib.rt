@@ -1,0 +1,5 @@
+//! The map of a VM, and what a well-formed configuration is.
+//!
+//! A map says of each byte of the address space what it is to a VM: memory of its own, a port, a window on shared memory, or
+//! nothing. It is asked byte by byte here; the packing of a core's protection regions goes over ranges, in a crate above.
+#![tactic(auto)]
