@@ -1,5 +1,5 @@
 -- The first refusal among bytes that all have one verdict.
-use Rattle.std.proofs.Common.{◌≡◌, ℕ, zero, suc, ◌+◌, ◌%◌, ◌^◌, ◌<◌, ◌≤◌, None, refl, arith}
+use Rattle.std.proofs.Common.{◌≡◌, ℕ, zero, suc, ◌+◌, ◌^◌, ◌<◌, ◌≤◌, None, refl, arith}
 use Rattle.bao_types.specs.declared.access.Verdict.{Verdict}
 use Rattle.bao_types.specs.declared.access.Verdict.TheVariants.{Allow}
 use Rattle.pmsa_table.specs.Whole.{next_address, first_refusal}

@@ -131,12 +131,15 @@ fn whole_accesses(rt: HostRuntime) {
 
 #[test]
 fn an_entry_is_set(rt: HostRuntime) {
-    let mut table = table_of(&[MEMORY, OFF]);
+    let mut entries = ArrayVec::new();
+    entries.push(MEMORY);
+    entries.push(OFF);
+    let mut table = Table::of(&entries);
     let before = table.judge(Access::Read, 0x11_0000);
     table.set(1, NEXT);
     let after = table.judge(Access::Read, 0x11_0000);
-    let entry = table.entries()[1];
-    assert_eq!(rt; (before, after, entry), (T, OK, NEXT));
+    let entry = table.entries().get(1).copied();
+    assert_eq!(rt; (before, after, entry), (T, OK, Some(NEXT)));
 }
 
 /// From a wrap at the last address an access goes on at 0.

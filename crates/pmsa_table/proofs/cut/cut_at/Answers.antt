@@ -1,7 +1,7 @@
-use Rattle.std.proofs.Common.{ℕ, ◌<◌, ◌≤◌, ◌≡◌, ◌^◌, ◌⊎◌, inl, inr, true, length, slice_index_or, All, arith}
+use Rattle.std.proofs.Common.{inl, All, arith}
 use Rattle.std.proofs.lemmas.List.Elements.{All-push}
 use Rattle.pmsa_table.specs.Span.{IsSpan}
-use Rattle.pmsa_table.specs.Edges.{IsBeside, all_edges}
+use Rattle.pmsa_table.specs.Edges.{IsBeside}
 use Rattle.pmsa_table.proofs.Alike.{judged_is_span}
 use Rattle.pmsa_table.proofs.Wholes.{whole_pushed}
 use Rattle.pmsa_table.proofs.cut.cut_at.Goals as goal

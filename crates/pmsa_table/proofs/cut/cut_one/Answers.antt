@@ -1,8 +1,4 @@
-use Rattle.std.proofs.Common.{All, ◌≡◌, ◌≤◌, ℕ, arith, sym, ◌∙◌}
 use Rattle.std.proofs.lemmas.List.Elements.{All-push}
-use Rattle.bao_types.specs.declared.access.Access.{Access}
-use Rattle.bao_types.specs.declared.access.Access.TheVariants.{Read, Write, Exec}
-use Rattle.pmsa_table.specs.declared.span.Span.{Span}
 use Rattle.pmsa_table.specs.Span.{IsSpan}
 use Rattle.pmsa_table.proofs.Alike.{judged_is_span}
 use Rattle.pmsa_table.proofs.cut.cut_one.Goals as goal

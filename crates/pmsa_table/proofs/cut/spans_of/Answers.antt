@@ -1,7 +1,7 @@
-use Rattle.std.proofs.Common.{◌≡◌, ℕ, ◌<◌, All, sym, subst}
+use Rattle.std.proofs.Common.{◌<◌, sym}
 use Rattle.std.proofs.lemmas.List.Sorted.{All-permutation, IsPermutation-sym}
 use Rattle.std.proofs.lemmas.List.Elements.{All-same}
-use Rattle.pmsa_table.specs.Edges.{IsBeside, all_edges}
+use Rattle.pmsa_table.specs.Edges.{IsBeside}
 use Rattle.pmsa_table.proofs.cut.spans_of.Goals as goal
 
 pub cut_at-requires-clause-low : goal.cut_at-requires-clause-low

@@ -1,7 +1,6 @@
-use Rattle.std.proofs.Common.{◌≡◌, ◌≤◌, true, false, length, take, arith, sym, ◌∙◌, ap}
+use Rattle.std.proofs.Common.{◌≡◌, true, false, take, arith, sym, ◌∙◌, ap}
 use Rattle.std.specs.List.{list_any}
 use Rattle.std.proofs.lemmas.List.{take_all}
-use Rattle.pmsa_table.specs.declared.span.Span.{Span}
 use Rattle.pmsa_table.specs.Span.{has}
 use Rattle.pmsa_table.proofs.table.Table.find.Goals as goal
 

@@ -1,6 +1,5 @@
-use Rattle.std.proofs.Common.{arith, sym, ◌∙◌, ◌≤◌, ◌^◌, ◌<◌, ◌+◌, ◌≡◌}
+use Rattle.std.proofs.Common.{arith, ◌∙◌}
 use Rattle.pmsa_stage2.specs.Stage2.{stage2}
-use Rattle.pmsa_table.specs.Span.{span_verdict}
 use Rattle.pmsa_table.proofs.Refusals.{same_refusals}
 use Rattle.pmsa_table.proofs.table.Table.judge_all.Goals as goal
 
