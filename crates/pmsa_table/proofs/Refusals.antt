@@ -2,7 +2,8 @@
 use Rattle.std.proofs.Common.{◌≡◌, ℕ, zero, suc, ◌+◌, ◌^◌, ◌<◌, ◌≤◌, None, refl, arith}
 use Rattle.bao_types.specs.declared.access.Verdict.{Verdict}
 use Rattle.bao_types.specs.declared.access.Verdict.TheVariants.{Allow}
-use Rattle.pmsa_table.specs.Whole.{next_address, first_refusal}
+use Rattle.bao_types.specs.Bytes.{next_address}
+use Rattle.pmsa_table.specs.Whole.{first_refusal}
 
 -- none, where each byte is allowed
 pub all_allowed : (at n : ℕ) → first_refusal (λ byte. Allow) at n ≡ None

@@ -1,12 +1,9 @@
 -- An access judged as a whole: each of its bytes in address order, and the first that is refused decides.
-use Rattle.std.specs.Prelude.{ℕ, Bool, true, false, zero, suc, ◌+◌, ◌%◌, ◌^◌, Option, None, Some}
+use Rattle.std.specs.Prelude.{ℕ, Bool, true, false, zero, suc, Option, None, Some}
+use Rattle.bao_types.specs.Bytes.{next_address}
 use Rattle.bao_types.specs.declared.access.Verdict.{Verdict}
 use Rattle.bao_types.specs.declared.access.Verdict.TheVariants.{Allow, Translation, Permission}
 use Rattle.pmsa_table.specs.declared.table.Refusal.{Refusal}
-
--- the address after this one; addresses wrap at 2^64
-abbrev pub next_address : ℕ → ℕ
-next_address at = (at + 1) % 2 ^ 64
 
 -- a refused byte decides, else the bytes after it do
 abbrev pub refused_at : Verdict → ℕ → Option Refusal → Option Refusal
