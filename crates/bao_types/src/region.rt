@@ -1,4 +1,4 @@
-ghost use Rattle.std.specs.Prelude.{◌≡◌, ◌↔◌, IsTrue};
+ghost use Rattle.std.specs.Prelude.{◌≡◌};
 
 use std::marker::Model;
 
@@ -20,12 +20,29 @@ pub struct Region {
 }
 
 impl Region {
-    ghost use Rattle.bao_types.specs.Region.{IsCovered, IsEnabled, access_permission, IsExecuteNever, is_match};
+    ghost use Rattle.std.specs.Prelude.{◌<◌};
+    ghost use Rattle.bao_types.specs.Region.{access_permission, covers, first_byte, is_enabled, is_execute_never, is_match, last_byte};
+
+    /// BASE times 64: the address of the region's first byte, below 2^48.
+    pub fn first_byte(&self) -> u64
+        ensures value { result ≡ first_byte self.now }
+        ensures bound { result < 0x1000000000000 }
+    {
+        self.base / 64 % (1 << 42) * 64
+    }
+
+    /// LIMIT times 64 + 63: the address of the region's last byte, below 2^48.
+    pub fn last_byte(&self) -> u64
+        ensures value { result ≡ last_byte self.now }
+        ensures bound { result < 0x1000000000000 }
+    {
+        self.limit / 64 % (1 << 42) * 64 + 63
+    }
 
     /// Whether the byte at `at` lies between the region's base and the last byte of its limit granule.
     /// The region need not be enabled.
     pub fn covers(&self, at: u64) -> bool
-        ensures { IsTrue result ↔ IsCovered self.now at }
+        ensures { result ≡ covers self.now at }
     {
         let granule = at / 64;
         self.base / 64 % (1 << 42) <= granule && granule <= self.limit / 64 % (1 << 42)
@@ -33,7 +50,7 @@ impl Region {
 
     /// EN: whether the region counts at all.
     pub fn is_enabled(&self) -> bool
-        ensures { IsTrue result ↔ IsEnabled self.now }
+        ensures { result ≡ is_enabled self.now }
     {
         self.limit % 2 == 1
     }
@@ -54,7 +71,7 @@ impl Region {
 
     /// XN: whether the bytes may not be executed.
     pub fn is_execute_never(&self) -> bool
-        ensures { IsTrue result ↔ IsExecuteNever self.now }
+        ensures { result ≡ is_execute_never self.now }
     {
         self.base / 2 % 2 == 1
     }
