@@ -1,5 +1,5 @@
 -- The bits of PSTATE as one number, in the layout of SPSR_EL1.
-use Rattle.std.specs.Prelude.{◌≡◌, ℕ, ◌⊎◌}
+use Rattle.std.specs.Prelude.{◌≡◌, ℕ, ◌+◌, ◌*◌, ◌/◌, ◌%◌, ◌^◌, ◌<◌, ◌⊎◌, Bool, if◌then◌else◌}
 use Rattle.bao_types.specs.Bits.{field}
 
 -- N
@@ -41,6 +41,34 @@ fiq_mask pstate = field pstate 6 6
 -- M, the mode
 abbrev pub mode : ℕ → ℕ
 mode pstate = field pstate 4 0
+
+-- N, Z, C and V as a number of four bits, N the highest
+abbrev pub flags : ℕ → ℕ
+flags pstate = field pstate 31 28
+
+-- D, A, I and F as a number of four bits, D the highest
+abbrev pub daif : ℕ → ℕ
+daif pstate = field pstate 9 6
+
+-- the flags as a number of four bits, N the highest
+abbrev pub nzcv : Bool → Bool → Bool → Bool → ℕ
+nzcv n z c v = 8 * (if n then 1 else 0) + 4 * (if z then 1 else 0) + 2 * (if c then 1 else 0) + (if v then 1 else 0)
+
+-- a number in which `part` has replaced the `count` bits from `place` on
+abbrev pub with_bits : ℕ → ℕ → ℕ → ℕ → ℕ
+with_bits value place count part = value / 2 ^ (place + count) * 2 ^ (place + count) + part * 2 ^ place + value % 2 ^ place
+
+-- PSTATE with other flags N, Z, C and V
+abbrev pub with_flags : ℕ → ℕ → ℕ
+with_flags pstate to = with_bits pstate 28 4 to
+
+-- PSTATE with another IL
+abbrev pub with_illegal_state : ℕ → Bool → ℕ
+with_illegal_state pstate to = with_bits pstate 20 1 (if to then 1 else 0)
+
+-- PSTATE with other masks D, A, I and F
+abbrev pub with_daif : ℕ → ℕ → ℕ
+with_daif pstate to = with_bits pstate 6 4 to
 
 -- EL0, EL1 with SP_EL0, or EL1 with its own stack pointer
 abbrev pub IsMode : ℕ → Type 0
