@@ -1,5 +1,5 @@
 -- The bits of PSTATE as one number, in the layout of SPSR_EL1.
-use Rattle.std.specs.Prelude.{◌≡◌, ℕ, ◌+◌, ◌*◌, ◌/◌, ◌%◌, ◌^◌, ◌<◌, ◌⊎◌, Bool, if◌then◌else◌}
+use Rattle.std.specs.Prelude.{◌≡◌, ℕ, ◌+◌, ◌*◌, ◌/◌, ◌%◌, ◌^◌, ◌⊎◌, Bool, if◌then◌else◌}
 use Rattle.bao_types.specs.Bits.{field}
 
 -- N

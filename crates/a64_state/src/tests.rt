@@ -43,15 +43,15 @@ fn register_31_as_sp(rt: HostRuntime) {
     assert_eq!(rt; seen, (9, 9, 7, 0));
 }
 
-/// What it shows, PSTATE, and after a write of 1 to SP the level, SP_EL0 and SP_EL1.
-struct Stack(&'static str, u32, u8, u64, u64);
+/// What it shows, the mode, IL, and after a write of 1 to SP the level, SP_EL0 and SP_EL1.
+type Stack = (&'static str, Mode, bool, u8, u64, u64);
 
 #[rattlefmt::skip]
 static STACKS: [Stack; 4] = [
-    Stack("EL0",                     pstate::EL0T,                          0, 1, 0),
-    Stack("EL1 with SP_EL0",         pstate::EL1T,                          1, 1, 0),
-    Stack("EL1 with its own",        pstate::EL1H,                          1, 0, 1),
-    Stack("other bits don't matter", pstate::N + pstate::IL + pstate::EL0T, 0, 1, 0),
+    ("EL0",                     Mode::El0t, false, 0, 1, 0),
+    ("EL1 with SP_EL0",         Mode::El1t, false, 1, 1, 0),
+    ("EL1 with its own",        Mode::El1h, false, 1, 0, 1),
+    ("other bits don't matter", Mode::El0t, true,  0, 1, 0),
 ];
 
 #[test]
@@ -62,9 +62,10 @@ fn stack_pointers(rt: HostRuntime) {
 }
 
 fn check_stack(rt: &impl Abort, row: &Stack) {
-    let Stack(shows, pstate, level, sp0, sp1) = *row;
+    let (shows, mode, illegal, level, sp0, sp1) = *row;
     let mut core = Core::reset(0);
-    core.pstate = pstate;
+    core.set_mode(mode);
+    core.set_illegal_state(illegal);
     core.write_sp(1);
     let seen = (core.level(), core.sp0, core.sp1, core.read_sp());
     assert_eq!(rt; seen, (level, sp0, sp1, 1), "{shows}");
