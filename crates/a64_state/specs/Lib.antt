@@ -1,3 +1,4 @@
+pub mod Bits
 pub mod Pstate
 pub mod Mode
 pub mod Parts

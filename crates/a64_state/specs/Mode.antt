@@ -1,6 +1,7 @@
 -- The modes of EL0 and EL1, by the mode field of PSTATE (ARM DDI 0487, "SPSR_EL1", M).
 use Rattle.std.specs.Prelude.{ℕ, ◌==◌, if◌then◌else◌, Option, Some, None}
-use Rattle.a64_state.specs.Pstate.{mode, with_bits}
+use Rattle.a64_state.specs.Bits.{with_bits}
+use Rattle.a64_state.specs.Pstate.{mode}
 use Rattle.a64_state.specs.declared.mode.Mode.{Mode}
 use Rattle.a64_state.specs.declared.mode.Mode.TheVariants.{El0t, El1t, El1h}
 

@@ -2,7 +2,7 @@
 //! kept. Each constant is the bit's weight, or the value of the mode field; each call reads a field of such a number,
 //! be it PSTATE or an SPSR.
 
-ghost use Rattle.std.specs.Prelude.{◌≡◌, ◌==◌, ◌<◌};
+ghost use Rattle.std.specs.Prelude.{◌≡◌, ◌<◌};
 ghost use Rattle.a64_state.specs.Pstate.{negative_flag, zero_flag, carry_flag, overflow_flag, illegal_state as illegal_state_bit, flags as flags_of, daif as daif_of, nzcv as nzcv_of};
 ghost use Rattle.a64_state.specs.Parts.{ArePartsApart};
 
@@ -40,7 +40,7 @@ pub const RESET: u32 = D + A + I + F + EL1H;
 /// N: the last result was negative.
 #[inline]
 pub fn negative(pstate: u32) -> bool
-    ensures { result ≡ (negative_flag pstate == 1) }
+    ensures { result ≡ negative_flag pstate }
 {
     field(pstate, 31, 31) == 1
 }
@@ -48,7 +48,7 @@ pub fn negative(pstate: u32) -> bool
 /// Z: the last result was zero.
 #[inline]
 pub fn zero(pstate: u32) -> bool
-    ensures { result ≡ (zero_flag pstate == 1) }
+    ensures { result ≡ zero_flag pstate }
 {
     field(pstate, 30, 30) == 1
 }
@@ -56,7 +56,7 @@ pub fn zero(pstate: u32) -> bool
 /// C: the last addition carried.
 #[inline]
 pub fn carry(pstate: u32) -> bool
-    ensures { result ≡ (carry_flag pstate == 1) }
+    ensures { result ≡ carry_flag pstate }
 {
     field(pstate, 29, 29) == 1
 }
@@ -64,14 +64,14 @@ pub fn carry(pstate: u32) -> bool
 /// V: the last addition of signed numbers overflowed.
 #[inline]
 pub fn overflow(pstate: u32) -> bool
-    ensures { result ≡ (overflow_flag pstate == 1) }
+    ensures { result ≡ overflow_flag pstate }
 {
     field(pstate, 28, 28) == 1
 }
 
 /// IL: the execution state is illegal.
 pub fn illegal_state(pstate: u32) -> bool
-    ensures { result ≡ (illegal_state_bit pstate == 1) }
+    ensures { result ≡ illegal_state_bit pstate }
 {
     field(pstate, 20, 20) == 1
 }
