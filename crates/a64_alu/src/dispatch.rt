@@ -10,15 +10,13 @@ use crate::add::{extended_left, flags_of, number, total, write_sum, write_sum_or
 use crate::condition::{changed, holds, operand_value};
 use crate::logical::{combined, inverted_if, mask, write_logical, write_logical_or_sp};
 use crate::moves::{address, extracted, field_moved, moved};
-use crate::number::width;
 use crate::product::product;
 use crate::quotient::two_sources;
-use crate::result::{low_x, write_flags, write_x, x_or_sp};
+use crate::result::{low_x, write_flags, write_x};
 use crate::reversal::one_source;
 use crate::shift::shifted;
-use a64_decode::Instr;
-use a64_state::Core;
-use bao_types::field;
+use a64_decode::{Instr, width};
+use a64_state::{Core, pstate};
 
 /// Whether an instruction is one of data processing: arithmetic, logic and moves of immediates and registers, with
 /// ADR and ADRP.
@@ -68,7 +66,7 @@ pub fn alu(core: &mut Core, instr: &Instr)
             rd,
         } => {
             let number = number(shifted, imm12);
-            let sum = total(wide, subtract, x_or_sp(core, rn), number, subtract);
+            let sum = total(wide, subtract, core.read_x_or_sp(rn.0), number, subtract);
             write_sum_or_sp(core, rd, flags, &sum);
         }
         Instr::LogicalImmediate {
@@ -106,7 +104,7 @@ fn move_parts(core: &mut Core, instr: &Instr)
             rd,
         } => {
             let width = width(wide);
-            let value = moved(width, kind, low_x(core, width, rd), 16 * hw as u32, imm16);
+            let value = moved(width, kind, low_x(core, width, rd), 16 * u32::from(hw), imm16);
             write_x(core, rd, value);
         }
         Instr::Bitfield {
@@ -120,7 +118,7 @@ fn move_parts(core: &mut Core, instr: &Instr)
             let width = width(wide);
             let old = low_x(core, width, rd);
             let value = low_x(core, width, rn);
-            let result = field_moved(width, kind, immr as u32, imms as u32, old, value);
+            let result = field_moved(width, kind, u32::from(immr), u32::from(imms), old, value);
             write_x(core, rd, result);
         }
         _ => extract(core, instr),
@@ -146,7 +144,7 @@ fn extract(core: &mut Core, instr: &Instr)
             let width = width(wide);
             let high = low_x(core, width, rn);
             let low = low_x(core, width, rm);
-            write_x(core, rd, extracted(width, high, low, imms as u32));
+            write_x(core, rd, extracted(width, high, low, u32::from(imms)));
         }
         _ => register_forms(core, instr),
     }
@@ -172,7 +170,7 @@ fn register_forms(core: &mut Core, instr: &Instr)
             rd,
         } => {
             let width = width(wide);
-            let operand = shifted(width, shift, low_x(core, width, rm), amount as u32);
+            let operand = shifted(width, shift, low_x(core, width, rm), u32::from(amount));
             let operand = inverted_if(invert, width, operand);
             let value = combined(kind, low_x(core, width, rn), operand);
             write_logical(core, width, kind, rd, value);
@@ -188,7 +186,7 @@ fn register_forms(core: &mut Core, instr: &Instr)
             rd,
         } => {
             let width = width(wide);
-            let operand = shifted(width, shift, low_x(core, width, rm), amount as u32);
+            let operand = shifted(width, shift, low_x(core, width, rm), u32::from(amount));
             let sum = total(wide, subtract, core.read_x(rn.0), operand, subtract);
             write_sum(core, rd, flags, &sum);
         }
@@ -216,7 +214,7 @@ fn extended_and_carry(core: &mut Core, instr: &Instr)
             rd,
         } => {
             let operand = extended_left(extend, core.read_x(rm.0), amount);
-            let sum = total(wide, subtract, x_or_sp(core, rn), operand, subtract);
+            let sum = total(wide, subtract, core.read_x_or_sp(rn.0), operand, subtract);
             write_sum_or_sp(core, rd, flags, &sum);
         }
         Instr::AddSubCarry {
@@ -227,7 +225,7 @@ fn extended_and_carry(core: &mut Core, instr: &Instr)
             rn,
             rd,
         } => {
-            let carry = field(core.pstate, 29, 29) == 1;
+            let carry = pstate::carry(core.pstate);
             let sum = total(wide, subtract, core.read_x(rn.0), core.read_x(rm.0), carry);
             write_sum(core, rd, flags, &sum);
         }
@@ -256,7 +254,7 @@ fn conditional(core: &mut Core, instr: &Instr)
                 let operand = operand_value(core, operand);
                 flags_of(&total(wide, subtract, core.read_x(rn.0), operand, subtract))
             } else {
-                nzcv as u32
+                u32::from(nzcv)
             };
             write_flags(core, flags);
         }

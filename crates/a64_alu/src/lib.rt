@@ -6,6 +6,7 @@
 
 pub use condition::holds;
 pub use dispatch::{alu, is_alu};
+pub use result::low_x;
 
 mod add;
 #[cfg(test)]

@@ -6,8 +6,7 @@ ghost use Rattle.bao_types.specs.Bits.{field};
 ghost use Rattle.a64_alu.specs.Numbers.{modulo, as_signed};
 ghost use Rattle.a64_alu.specs.Products.{product_of, signed_words as signed_words_of};
 
-use crate::number::low;
-use a64_decode::ProductKind;
+use a64_decode::{ProductKind, low};
 
 /// A product that is added to a number or subtracted from it, or the high half of a product of 128 bits.
 pub(crate) fn product(width: u32, kind: ProductKind, a: u64, n: u64, m: u64) -> u64

@@ -7,8 +7,8 @@ ghost use Rattle.std.specs.Int.Count.{count_leading_zeros};
 ghost use Rattle.a64_decode.specs.Lawful.{width_of, is_long_reversal};
 ghost use Rattle.a64_alu.specs.Reversals.{each, without_sign as without_sign_of, one_source as one_source_of};
 
-use crate::number::{inverted, low, width};
-use a64_decode::OneSourceKind;
+use crate::number::inverted;
+use a64_decode::{OneSourceKind, low, width};
 
 /// The bits or the bytes of elements in the opposite order, the zeros above the highest one, and the bits below the
 /// highest bit that are like it, down to the first that isn't.

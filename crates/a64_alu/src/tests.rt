@@ -1,7 +1,6 @@
 use crate::cases::{
     ADDED, ADDITIONS, CONDITIONS, LOGIC, MOVES, OLD, PRODUCTS, REVERSALS, Row, SPECIAL, STACK,
 };
-use crate::result::write_flags;
 use crate::{alu, holds, is_alu};
 use a64_decode::{Condition, decode};
 use a64_state::{Core, pstate};
@@ -17,11 +16,11 @@ fn agrees(rt: &impl Abort, row: Row) {
     core.write_x(2, x2);
     core.write_x(3, ADDED);
     core.write_sp(STACK);
-    write_flags(&mut core, flags);
+    core.set_flags(flags);
     let mut expected = core;
     expected.write_x(0, x0);
     expected.write_sp(sp);
-    write_flags(&mut expected, flags_after);
+    expected.set_flags(flags_after);
 
     let instr = decode(word);
     assert!(rt; is_alu(&instr), "{word:08X}");
