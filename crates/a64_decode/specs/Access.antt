@@ -22,7 +22,7 @@ scale_of size.Half = 1
 scale_of size.Word = 2
 scale_of size.Double = 3
 
--- an element of a pair
+-- the width of a pair's element
 abbrev pub pair_size : PairKind → Size
 pair_size pair.Word = size.Word
 pair_size pair.SignedWord = size.Word
@@ -63,19 +63,48 @@ is_double size.Double = true
 abbrev pub is_wide : Size → Transfer → Bool
 is_wide size transfer = is_double size || is_long_load transfer
 
--- a load of one register from a literal, which has no base to write back
-abbrev pub load_of : Size → Bool → Bool → Reg → MemAccess
-load_of size signed wide rt =
-    record { size = size; store = false; signed = signed; wide = wide; rt = rt; described = true }
+-- and of a literal; that of a prefetch means nothing
+abbrev pub literal_size : LiteralKind → Size
+literal_size literal.Word = size.Word
+literal_size literal.Double = size.Double
+literal_size literal.SignedWord = size.Word
+literal_size literal.Prefetch = size.Double
 
--- the access of a literal's kind: its size, whether it is signed, and whether its register has 64 bits
+abbrev pub is_signed_literal : LiteralKind → Bool
+is_signed_literal literal.Word = false
+is_signed_literal literal.Double = false
+is_signed_literal literal.SignedWord = true
+is_signed_literal literal.Prefetch = false
+
+-- the register of a literal has 64 bits
+abbrev pub is_wide_literal : LiteralKind → Bool
+is_wide_literal literal.Word = false
+is_wide_literal literal.Double = true
+is_wide_literal literal.SignedWord = true
+is_wide_literal literal.Prefetch = true
+
+abbrev pub is_literal_prefetch : LiteralKind → Bool
+is_literal_prefetch literal.Word = false
+is_literal_prefetch literal.Double = false
+is_literal_prefetch literal.SignedWord = false
+is_literal_prefetch literal.Prefetch = true
+
+-- the load of a literal, which has no base to write back
 abbrev pub literal_access : LiteralKind → Reg → Option MemAccess
-literal_access literal.Word rt = Some (load_of size.Word false false rt)
-literal_access literal.Double rt = Some (load_of size.Double false true rt)
-literal_access literal.SignedWord rt = Some (load_of size.Word true true rt)
-literal_access literal.Prefetch rt = None
+literal_access kind rt =
+    if is_literal_prefetch kind then None
+    else Some (
+    record {
+      size = literal_size kind;
+      store = false;
+      signed = is_signed_literal kind;
+      wide = is_wide_literal kind;
+      rt = rt;
+      described = true;
+    }
+    )
 
--- the access of one register at a base; a signed load of a double word is a prefetch
+-- a load or store of one register at a base; a signed load of a double word is a prefetch
 abbrev pub single_access : Size → Transfer → Reg → Bool → Option MemAccess
 single_access size transfer rt described =
     if is_prefetch size transfer then None

@@ -1,7 +1,7 @@
 //! What the word of a load or a store says of it by itself.
 
 ghost use Rattle.std.specs.Prelude.{◌≡◌, ◌^◌};
-ghost use Rattle.a64_decode.specs.Access.{scale_of, pair_size, literal_access, single_access, access_of as access_in};
+ghost use Rattle.a64_decode.specs.Access.{scale_of, pair_size, literal_size, literal_access, single_access, access_of as access_in};
 
 use crate::load_store::is_prefetch;
 use crate::{IndexMode, Instr, LiteralKind, PairKind, Reg, Size, Transfer};
@@ -51,6 +51,18 @@ impl PairKind {
     }
 }
 
+impl LiteralKind {
+    /// The width of a literal; that of a prefetch means nothing.
+    pub fn size(self) -> Size
+        ensures { result ≡ literal_size self }
+    {
+        match self {
+            LiteralKind::Word | LiteralKind::SignedWord => Size::Word,
+            LiteralKind::Double | LiteralKind::Prefetch => Size::Double,
+        }
+    }
+}
+
 /// The access of a load or a store; None where an instruction is neither. A prefetch is neither.
 #[tactic(auto, unfolding(crate::specs::Access::access_of))]
 pub fn access_of(instr: &Instr) -> Option<MemAccess>
@@ -93,17 +105,14 @@ pub fn access_of(instr: &Instr) -> Option<MemAccess>
 fn literal(kind: LiteralKind, rt: Reg) -> Option<MemAccess>
     ensures { result ≡ literal_access kind rt }
 {
-    let (size, signed, wide) = match kind {
-        LiteralKind::Word => (Size::Word, false, false),
-        LiteralKind::Double => (Size::Double, false, true),
-        LiteralKind::SignedWord => (Size::Word, true, true),
-        LiteralKind::Prefetch => return None,
-    };
+    if kind == LiteralKind::Prefetch {
+        return None;
+    }
     Some(MemAccess {
-        size,
+        size: kind.size(),
         store: false,
-        signed,
-        wide,
+        signed: kind == LiteralKind::SignedWord,
+        wide: kind != LiteralKind::Word,
         rt,
         described: true,
     })

@@ -6,6 +6,7 @@
 
 pub use access::{MemAccess, access_of};
 pub use instr::Instr;
+pub use load_store::is_prefetch;
 pub use number::{extended, loaded, low, sign_extend, width};
 pub use operand::{
     BarrierKind, BitfieldKind, BranchKind, Condition, ExceptionKind, Extend, IndexMode,

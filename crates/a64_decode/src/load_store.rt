@@ -171,8 +171,8 @@ fn has_no_transfer(size: Size, transfer: Transfer) -> bool
     transfer == Transfer::LoadSignedWord && (size == Size::Word || size == Size::Double)
 }
 
-/// Whether the word asks for a signed load of a double word, which is a prefetch.
-pub(crate) fn is_prefetch(size: Size, transfer: Transfer) -> bool
+/// Whether a load or store of one register is a signed load of a double word, which is a prefetch and does nothing.
+pub fn is_prefetch(size: Size, transfer: Transfer) -> bool
     ensures { result ≡ prefetches size transfer }
 {
     size == Size::Double && transfer == Transfer::LoadSigned
