@@ -1,8 +1,7 @@
 -- What each load and store asks of memory: an equation a row of the table of words. An offset counts words in a literal
 -- load, elements in a pair and where it is unsigned, and else bytes. `isv` is true of an access by one register without
 -- write-back (ARM DDI 0487, "ISS encoding for an exception from a Data Abort", ISV).
-use Rattle.std.specs.Prelude.{◌≡◌, ℕ, ◌^◌, ◌⊎◌, Option, Some, None, Bool, true, false, not, if◌then◌else◌}
-use Rattle.bao_types.specs.Bytes.{IsWidth}
+use Rattle.std.specs.Prelude.{◌≡◌, ℕ, ◌^◌, ◌⊎◌, Option, Some, None, true, false, not, if◌then◌else◌}
 use Rattle.a64_state.specs.Core.{CoreData}
 use Rattle.a64_state.specs.Registers.{x_of, x_or_sp, is_sp}
 use Rattle.a64_decode.specs.Lawful.{is_prefetch, writes_back}
