@@ -1,1 +1,1 @@
-mod Agreement
+pub mod Agreement
