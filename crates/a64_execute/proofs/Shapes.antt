@@ -1,5 +1,5 @@
 -- What is known of an instruction that has a shape.
-use Rattle.std.specs.Prelude.{◌≡◌, ◌*◌, ◌^◌, ℕ, Bool, true, false, Option, Some, None, if◌then◌else◌}
+use Rattle.std.specs.Prelude.{◌≡◌, ◌*◌, ◌^◌, ℕ, true, false, Option, Some, None, if◌then◌else◌}
 use Rattle.std.proofs.Common.{refl, sym, subst, ◌∙◌, rules}
 use Rattle.bao_types.specs.Bytes.{IsWidth}
 use Rattle.a64_state.specs.Core.{CoreData}
