@@ -8,7 +8,8 @@ use Rattle.bao_types.specs.Region.{covers}
 use Rattle.pmsa_stage2.specs.Stage2.{stage2}
 use Rattle.board.specs.declared.board.Exit.TheVariants as exit
 use Rattle.board.specs.Sample.{sample, sample_packing, sample_shape, hypervisor_entry, memory_entry, console_entry}
-use Rattle.board.specs.Map.{is_within, is_platform_port}
+use Rattle.bao_types.specs.ByteRange.{is_within}
+use Rattle.board.specs.Map.{is_platform_port}
 use Rattle.board.specs.Stage2.{by_map, by_entries}
 use Rattle.board.specs.Attempt.{reach_of, attempt, core_of, stored_of}
 use Rattle.board.specs.Machine.{Machine, core_at, entries_at, is_port, written, machine_reach, step_attempt, stepped, step_is_unbuilt}

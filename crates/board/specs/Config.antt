@@ -2,7 +2,8 @@
 use Rattle.std.specs.Prelude.{ℕ, List, Bool}
 use Rattle.bao_types.specs.declared.range.ByteRange.{ByteRange}
 
--- a device port of the platform: 64 bytes from base on, and the interrupt number of its line
+-- a device port as the configuration lists it: its bytes from base on, and the interrupt number of its line. Which cores the
+-- line reaches follows from the VMs, and stands in the board's `PortSpot`.
 pub record PortPlace : Type 0 where
   pub id : ℕ
   pub base : ℕ

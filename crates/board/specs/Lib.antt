@@ -8,4 +8,3 @@ pub mod Reached
 pub mod Flat
 pub mod Lone
 pub mod View
-pub mod Entry

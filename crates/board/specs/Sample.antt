@@ -1,6 +1,7 @@
 -- The one configuration that is accepted today: one VM with one core, 64 KiB of memory and a console.
 use Rattle.std.specs.Prelude.{ℕ, List, [], ◌∷◌, true, replicate}
 use Rattle.bao_types.specs.declared.region.Region.{Region}
+use Rattle.bao_types.specs.Region.{no_region}
 use Rattle.bao_types.specs.Shape.{ShapeData}
 use Rattle.board.specs.Config.{Config}
 
@@ -43,11 +44,8 @@ memory_entry = record { base = 0x100004; limit = 0x10ffc1 }
 abbrev pub console_entry : Region
 console_entry = record { base = 0x9c090006; limit = 0x9c090003 }
 
-abbrev pub zero_entry : Region
-zero_entry = record { base = 0; limit = 0 }
-
 abbrev pub sample_packing : List Region
-sample_packing = hypervisor_entry ∷ memory_entry ∷ console_entry ∷ replicate 13 zero_entry
+sample_packing = hypervisor_entry ∷ memory_entry ∷ console_entry ∷ replicate 13 no_region
 
 -- the board for the configuration and so many events
 abbrev pub sample_shape : ℕ → ShapeData

@@ -4,7 +4,8 @@ use Rattle.std.specs.Prelude.{IsTrue, IsFalse, ◌==◌, Some, slice_get}
 use Rattle.std.proofs.lemmas.Bool.Decides.{nat_tests}
 use Rattle.bao_types.specs.declared.access.Access.TheVariants.{Write}
 use Rattle.board.specs.Config.{Vm}
-use Rattle.board.specs.Map.{is_within, is_platform_port, has_core}
+use Rattle.bao_types.specs.ByteRange.{is_within}
+use Rattle.board.specs.Map.{is_platform_port, has_core}
 use Rattle.board.specs.Stage2.{by_map}
 use Rattle.board.specs.Attempt.{reaches}
 use Rattle.board.specs.Lone.{is_core_of, is_in_window}

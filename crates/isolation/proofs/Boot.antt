@@ -4,7 +4,8 @@ use Rattle.std.specs.Prelude.{IsTrue, IsFalse, if◌then◌else◌, Some, slice_
 use Rattle.std.proofs.lemmas.List.{length-map}
 use Rattle.a64_state.specs.Registers.{reset_core}
 use Rattle.board.specs.Config.{Config, Vm}
-use Rattle.board.specs.Map.{is_within, has_core, owner}
+use Rattle.bao_types.specs.ByteRange.{is_within}
+use Rattle.board.specs.Map.{has_core, owner}
 use Rattle.board.specs.Machine.{over}
 use Rattle.board.specs.Flat.{boot, boot_bytes, boot_core, boot_power}
 use Rattle.isolation.specs.Agree.{Agree}

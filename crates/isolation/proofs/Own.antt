@@ -6,7 +6,8 @@ use Rattle.bao_types.specs.declared.access.Access.TheVariants.{Read, Write, Exec
 use Rattle.bao_types.specs.declared.access.Class.TheVariants.{Hyp}
 use Rattle.a64_state.specs.Registers.{reset_core}
 use Rattle.board.specs.Config.{Config, Vm}
-use Rattle.board.specs.Map.{Kind, Ram, Port, Window, Hole, is_within, is_platform_port, kind_at, grant, guest_class, has_core, owner}
+use Rattle.bao_types.specs.ByteRange.{is_within}
+use Rattle.board.specs.Map.{Kind, Ram, Port, Window, Hole, is_platform_port, kind_at, grant, guest_class, has_core, owner}
 use Rattle.board.specs.Stage2.{verdict_of, by_map}
 use Rattle.board.specs.Attempt.{is_allowed, reaches, reach_of, attempt, core_of, stored_of}
 use Rattle.board.specs.Machine.{core_at, written}

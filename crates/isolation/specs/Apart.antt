@@ -2,7 +2,8 @@
 use Rattle.std.specs.Prelude.{◌≡◌, ◌≢◌, ℕ, ◌+◌, ◌%◌, ◌<◌, IsTrue, IsFalse, List, All, length, Some, slice_get, ⊤}
 use Rattle.bao_types.specs.declared.access.Access.TheVariants.{Write}
 use Rattle.board.specs.Config.{Config, Vm}
-use Rattle.board.specs.Map.{is_within, is_platform_port, kind_at, has_core}
+use Rattle.bao_types.specs.ByteRange.{is_within}
+use Rattle.board.specs.Map.{is_platform_port, kind_at, has_core}
 use Rattle.board.specs.Stage2.{by_map}
 use Rattle.board.specs.Attempt.{reaches}
 use Rattle.board.specs.Flat.{FlatEvent, Step, Wrote, boot, flat_run}

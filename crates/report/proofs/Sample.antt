@@ -4,7 +4,8 @@ use Rattle.std.specs.Prelude.{if◌then◌else◌, nat_le, nat_lt, not, ◌&&◌
 use Rattle.std.proofs.lemmas.Bool.Decides.{nat_tests}
 use Rattle.board.specs.Config.{Config, Vm}
 use Rattle.board.specs.Sample.{sample}
-use Rattle.board.specs.Map.{kind_at, is_within}
+use Rattle.bao_types.specs.ByteRange.{is_within}
+use Rattle.board.specs.Map.{kind_at}
 use Rattle.board.specs.Machine.{Machine, core_at}
 use Rattle.board.specs.View.{view_of}
 use Rattle.board.specs.Flat.{project, On}

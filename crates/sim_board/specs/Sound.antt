@@ -1,13 +1,13 @@
 -- What every `SimBoard` keeps.
-use Rattle.std.specs.Prelude.{◌≡◌, ℕ, ◌+◌, ◌≤◌, List, All, ◌||◌, length, IsTrue}
+use Rattle.std.specs.Prelude.{◌≡◌, ℕ, ◌≤◌, List, All, ◌||◌, length, IsTrue}
 use Rattle.bao_types.specs.declared.range.ByteRange.{ByteRange}
 use Rattle.bao_types.specs.declared.region.Region.{Region}
 use Rattle.bao_types.specs.declared.shape.Shape.{Shape}
-use Rattle.bao_types.specs.Shape.{ShapeData, shape_data}
+use Rattle.bao_types.specs.Shape.{ShapeData, event_limit, shape_data}
 use Rattle.bao_types.specs.declared.access.Access.TheVariants.{Write}
 use Rattle.bao_types.specs.Region.{is_match}
 use Rattle.pmsa_stage2.specs.Stage2.{gives_guest}
-use Rattle.board.specs.Map.{is_within}
+use Rattle.bao_types.specs.ByteRange.{address_space_end, end, is_within}
 use Rattle.board.specs.Machine.{is_used, is_port}
 
 -- the entry lets a guest store to memory in use and to ports alone
@@ -17,14 +17,14 @@ IsConfined shape entry =
     → IsTrue (is_used shape at || is_port shape at)
 
 -- memory is the bank's bytes, which hold the used ranges; each core of the shape has its registers and entries, each
--- of them confined; and no more steps were taken than events were spent, of a million at most
+-- of them confined; and no more steps were taken than events were spent, of the most that a board takes
 pub record IsSound (shape : Shape) (bank : ByteRange) (memory_len cores_len : ℕ) (entries : List (List Region))
     (entered spent : ℕ) : Type 0 where
   pub memory_size : memory_len ≡ bank.size
-  pub bank_end : bank.base + bank.size ≤ 0x1000000000000
+  pub bank_end : end bank ≤ address_space_end
   pub used : (at : ℕ) → IsTrue (is_used (shape_data shape) at) → IsTrue (is_within bank at)
   pub cores : cores_len ≡ length shape.cores.items
   pub entries_len : length entries ≡ length shape.cores.items
   pub confined : All (All (IsConfined (shape_data shape))) entries
   pub within : entered ≤ spent
-  pub events : shape.events ≤ 1000000
+  pub events : shape.events ≤ event_limit
