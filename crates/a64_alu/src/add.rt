@@ -13,6 +13,15 @@ use a64_state::Core;
 use a64_state::pstate::nzcv;
 use bao_types::{Sum, add_carry};
 
+/// The form of an addition or a subtraction.
+#[derive(Clone, Copy)]
+pub(crate) struct Form {
+    pub(crate) wide: bool,
+    pub(crate) subtract: bool,
+    /// Whether it sets the flags.
+    pub(crate) flags: bool,
+}
+
 /// A sum, or a difference as the sum with the inverted number.
 pub(crate) fn total(wide: bool, subtract: bool, x: u64, y: u64, carry: bool) -> Sum
     ensures { result ≡ total_of wide subtract x y carry }
