@@ -23,11 +23,11 @@ pub(crate) struct Form {
 }
 
 /// A sum, or a difference as the sum with the inverted number.
-pub(crate) fn total(wide: bool, subtract: bool, x: u64, y: u64, carry: bool) -> Sum
-    ensures { result ≡ total_of wide subtract x y carry }
+pub(crate) fn total(form: Form, x: u64, y: u64, carry: bool) -> Sum
+    ensures { result ≡ total_of form.wide form.subtract x y carry }
 {
-    let y = if subtract { inverted(64, y) } else { y };
-    add_carry(x, y, carry, wide)
+    let y = if form.subtract { inverted(64, y) } else { y };
+    add_carry(x, y, carry, form.wide)
 }
 
 /// The flags of an addition.

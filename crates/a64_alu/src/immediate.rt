@@ -46,13 +46,7 @@ pub(crate) fn add_sub_immediate(
     ensures frame { ChangesOnlyResults core.old core.new }
 {
     let operand = number(shifted, imm12);
-    let sum = total(
-        form.wide,
-        form.subtract,
-        core.read_x_or_sp(rn.0),
-        operand,
-        form.subtract,
-    );
+    let sum = total(form, core.read_x_or_sp(rn.0), operand, form.subtract);
     write_sum_or_sp(core, rd, form.flags, &sum);
 }
 

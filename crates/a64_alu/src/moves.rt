@@ -84,6 +84,6 @@ pub(crate) fn extracted(width: u32, high: u64, low: u64, amount: u32) -> u64
     ensures { result ≡ extracted_from width high low amount }
 {
     let end = 1u128 << width;
-    let pair = high as u128 * end + low as u128;
+    let pair = u128::from(high) * end + u128::from(low);
     ((pair >> amount) % end) as u64
 }

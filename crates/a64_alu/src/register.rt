@@ -72,13 +72,7 @@ pub(crate) fn add_sub_shifted(core: &mut Core, form: Form, operand: ShiftedReg, 
         low_x(core, width, operand.rm),
         u32::from(operand.amount),
     );
-    let sum = total(
-        form.wide,
-        form.subtract,
-        core.read_x(rn.0),
-        value,
-        form.subtract,
-    );
+    let sum = total(form, core.read_x(rn.0), value, form.subtract);
     write_sum(core, rd, form.flags, &sum);
 }
 
@@ -97,13 +91,7 @@ pub(crate) fn add_sub_extended(
     ensures frame { ChangesOnlyResults core.old core.new }
 {
     let value = extended_left(extend, core.read_x(rm.0), amount);
-    let sum = total(
-        form.wide,
-        form.subtract,
-        core.read_x_or_sp(rn.0),
-        value,
-        form.subtract,
-    );
+    let sum = total(form, core.read_x_or_sp(rn.0), value, form.subtract);
     write_sum_or_sp(core, rd, form.flags, &sum);
 }
 
@@ -114,13 +102,7 @@ pub(crate) fn add_sub_carry(core: &mut Core, form: Form, rm: Reg, rn: Reg, rd: R
     ensures frame { ChangesOnlyResults core.old core.new }
 {
     let carry = pstate::carry(core.pstate);
-    let sum = total(
-        form.wide,
-        form.subtract,
-        core.read_x(rn.0),
-        core.read_x(rm.0),
-        carry,
-    );
+    let sum = total(form, core.read_x(rn.0), core.read_x(rm.0), carry);
     write_sum(core, rd, form.flags, &sum);
 }
 
@@ -138,9 +120,14 @@ pub(crate) fn conditional_compare(
     ensures meaning { core.new ≡ computed (variant.ConditionalCompare wide subtract operand condition rn nzcv) core.old }
     ensures frame { ChangesOnlyResults core.old core.new }
 {
+    let form = Form {
+        wide,
+        subtract,
+        flags: true,
+    };
     let flags = if holds(condition, core.pstate) {
         let operand = operand_value(core, operand);
-        flags_of(&total(wide, subtract, core.read_x(rn.0), operand, subtract))
+        flags_of(&total(form, core.read_x(rn.0), operand, subtract))
     } else {
         u32::from(nzcv)
     };
