@@ -37,6 +37,7 @@ pub struct MemShape {
 /// What an instruction asks of memory, or None where it is no load or store. A prefetch is neither (ARM DDI 0487,
 /// "Loads and stores").
 #[tactic(auto, unfolding(crate::specs::Shape::memory_shape, a64_decode::specs::Access::access_of))]
+#[rattlefmt::skip]
 pub fn shape_of(core: &Core, instr: &Instr) -> Option<MemShape>
     requires { IsLawful instr.now }
     ensures shape { result ≡ memory_shape core.now instr.now }
@@ -47,41 +48,14 @@ pub fn shape_of(core: &Core, instr: &Instr) -> Option<MemShape>
 {
     match *instr {
         Instr::LoadLiteral { kind, offset, .. } => literal(core, kind, offset),
-        Instr::Pair {
-            kind,
-            mode,
-            load,
-            offset,
-            rn,
-            ..
-        } => Some(pair(core, kind, mode, load, rn, offset)),
-        Instr::LoadStoreUnsigned {
-            size,
-            transfer,
-            imm12,
-            rn,
-            ..
-        } => {
+        Instr::Pair { kind, mode, load, offset, rn, .. } => Some(pair(core, kind, mode, load, rn, offset)),
+        Instr::LoadStoreUnsigned { size, transfer, imm12, rn, .. } => {
             let offset = scaled_by(size, true, u64::from(imm12));
             single(core, size, transfer, IndexMode::Offset, rn, offset)
         }
-        Instr::LoadStoreIndexed {
-            size,
-            transfer,
-            offset,
-            mode,
-            rn,
-            ..
-        } => single(core, size, transfer, mode, rn, offset),
-        Instr::LoadStoreRegister {
-            size,
-            transfer,
-            rm,
-            extend,
-            scaled,
-            rn,
-            ..
-        } => {
+        Instr::LoadStoreIndexed { size, transfer, offset, mode, rn, .. } =>
+            single(core, size, transfer, mode, rn, offset),
+        Instr::LoadStoreRegister { size, transfer, rm, extend, scaled, rn, .. } => {
             let offset = scaled_by(size, scaled, extended(extend, core.read_x(rm.0)));
             single(core, size, transfer, IndexMode::Offset, rn, offset)
         }

@@ -42,7 +42,8 @@ pub(crate) fn add_sub_immediate(
     rd: Reg,
 )
     requires lawful { IsLawful (variant.AddSubImmediate form.wide form.subtract form.flags shifted imm12 rn rd) }
-    ensures meaning { core.new ≡ computed (variant.AddSubImmediate form.wide form.subtract form.flags shifted imm12 rn rd) core.old }
+    ensures meaning { core.new
+        ≡ computed (variant.AddSubImmediate form.wide form.subtract form.flags shifted imm12 rn rd) core.old }
     ensures frame { ChangesOnlyResults core.old core.new }
 {
     let operand = number(shifted, imm12);
@@ -60,7 +61,8 @@ pub(crate) fn logical_immediate(
     rd: Reg,
 )
     requires lawful { IsLawful (variant.LogicalImmediate wide kind mask.n mask.immr mask.imms rn rd) }
-    ensures meaning { core.new ≡ computed (variant.LogicalImmediate wide kind mask.n mask.immr mask.imms rn rd) core.old }
+    ensures meaning { core.new
+        ≡ computed (variant.LogicalImmediate wide kind mask.n mask.immr mask.imms rn rd) core.old }
     ensures frame { ChangesOnlyResults core.old core.new }
 {
     let width = width(wide);

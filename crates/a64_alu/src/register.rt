@@ -41,7 +41,8 @@ pub(crate) fn logical_shifted(
     rd: Reg,
 )
     requires lawful { IsLawful (variant.LogicalShifted wide kind operand.shift invert operand.rm operand.amount rn rd) }
-    ensures meaning { core.new ≡ computed (variant.LogicalShifted wide kind operand.shift invert operand.rm operand.amount rn rd) core.old }
+    ensures meaning { core.new
+        ≡ computed (variant.LogicalShifted wide kind operand.shift invert operand.rm operand.amount rn rd) core.old }
     ensures frame { ChangesOnlyResults core.old core.new }
 {
     let width = width(wide);
@@ -61,8 +62,11 @@ pub(crate) fn logical_shifted(
 
 /// ADD, ADDS, SUB and SUBS of a shifted register.
 pub(crate) fn add_sub_shifted(core: &mut Core, form: Form, operand: ShiftedReg, rn: Reg, rd: Reg)
-    requires lawful { IsLawful (variant.AddSubShifted form.wide form.subtract form.flags operand.shift operand.rm operand.amount rn rd) }
-    ensures meaning { core.new ≡ computed (variant.AddSubShifted form.wide form.subtract form.flags operand.shift operand.rm operand.amount rn rd) core.old }
+    requires lawful { IsLawful
+        (variant.AddSubShifted form.wide form.subtract form.flags operand.shift operand.rm operand.amount rn rd) }
+    ensures meaning { core.new
+        ≡ computed
+        (variant.AddSubShifted form.wide form.subtract form.flags operand.shift operand.rm operand.amount rn rd) core.old }
     ensures frame { ChangesOnlyResults core.old core.new }
 {
     let width = width(form.wide);
@@ -87,7 +91,8 @@ pub(crate) fn add_sub_extended(
     rd: Reg,
 )
     requires lawful { IsLawful (variant.AddSubExtended form.wide form.subtract form.flags rm extend amount rn rd) }
-    ensures meaning { core.new ≡ computed (variant.AddSubExtended form.wide form.subtract form.flags rm extend amount rn rd) core.old }
+    ensures meaning { core.new
+        ≡ computed (variant.AddSubExtended form.wide form.subtract form.flags rm extend amount rn rd) core.old }
     ensures frame { ChangesOnlyResults core.old core.new }
 {
     let value = extended_left(extend, core.read_x(rm.0), amount);
@@ -117,7 +122,8 @@ pub(crate) fn conditional_compare(
     nzcv: u8,
 )
     requires lawful { IsLawful (variant.ConditionalCompare wide subtract operand condition rn nzcv) }
-    ensures meaning { core.new ≡ computed (variant.ConditionalCompare wide subtract operand condition rn nzcv) core.old }
+    ensures meaning { core.new
+        ≡ computed (variant.ConditionalCompare wide subtract operand condition rn nzcv) core.old }
     ensures frame { ChangesOnlyResults core.old core.new }
 {
     let form = Form {
