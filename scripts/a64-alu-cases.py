@@ -247,7 +247,7 @@ def main():
             cells.append((text, before + (hexadecimal(x0), place_of(sp), str(after >> 28))))
         heads = ("// word", "x1 before", "x2 before", "flags", "x0 after", "SP after", "flags after")
         widths = [max(map(len, column)) for column in zip(heads, *(row for _, row in cells))]
-        print(f"#[rattlefmt::skip]\npub(crate) const {name}: [Row; {len(rows)}] = [")
+        print(f"#[rattlefmt::skip]\npub(crate) static {name}: [Row; {len(rows)}] = [")
         print("    " + "  ".join(head.ljust(width) for head, width in zip(heads, widths)))
         for text, row in cells:
             aligned = (f"{cell},".ljust(width + 1) for cell, width in zip(row[:-1], widths))

@@ -1,37 +1,17 @@
 -- What each load and store asks of memory: an equation a row of the table of words. An offset counts words in a literal
 -- load, elements in a pair and where it is unsigned, and else bytes. `isv` is true of an access by one register without
 -- write-back (ARM DDI 0487, "ISS encoding for an exception from a Data Abort", ISV).
-use Rattle.std.specs.Prelude.{◌≡◌, ℕ, ◌^◌, ◌⊎◌, Option, Some, None, Bool, true, false, not, if◌then◌else◌}
-pub use Rattle.bao_types.specs.Bytes.{IsWidth}
+use Rattle.std.specs.Prelude.{◌≡◌, ℕ, ◌^◌, ◌⊎◌, Option, Some, None, true, false, not, if◌then◌else◌}
 use Rattle.a64_state.specs.Core.{CoreData}
-use Rattle.a64_state.specs.Registers.{x_of}
+use Rattle.a64_state.specs.Registers.{x_of, x_or_sp, is_sp}
 use Rattle.a64_decode.specs.Lawful.{is_prefetch, writes_back}
+use Rattle.a64_decode.specs.Operands.{extended}
+use Rattle.a64_decode.specs.Access.{scale_of, pair_size, literal_size, is_literal_prefetch, is_store, access_of}
+use Rattle.a64_decode.specs.declared.access.MemAccess.{MemAccess}
 use Rattle.a64_decode.specs.declared.instr.Instr.{Instr}
 use Rattle.a64_decode.specs.declared.instr.Instr.TheVariants.{LoadLiteral, Pair, LoadStoreUnsigned, LoadStoreIndexed, LoadStoreRegister}
-use Rattle.a64_decode.specs.declared.operand.LiteralKind.{LiteralKind}
-use Rattle.a64_decode.specs.declared.operand.LiteralKind.TheVariants.{Prefetch}
-use Rattle.a64_decode.specs.declared.operand.Transfer.{Transfer}
-use Rattle.a64_decode.specs.declared.operand.Transfer.TheVariants.{Store}
 use Rattle.a64_address.specs.declared.shape.MemShape.{MemShape}
-use Rattle.a64_address.specs.Address.{scale_of, pair_scale, literal_scale, plus, shifted_left, base_of, is_sp, extended, address_of, back_of}
-
--- a prefetch of a literal
-abbrev pub is_literal_prefetch : LiteralKind → Bool
-is_literal_prefetch Prefetch = true
-is_literal_prefetch _ = false
-
-abbrev pub is_store : Transfer → Bool
-is_store Store = true
-is_store _ = false
-
--- whether an instruction is a load or a store; a prefetch is neither
-abbrev pub is_access : Instr → Bool
-is_access (LoadLiteral kind offset rt) = not (is_literal_prefetch kind)
-is_access (Pair kind mode load offset rt2 rn rt) = true
-is_access (LoadStoreUnsigned size transfer imm12 rn rt) = not (is_prefetch size transfer)
-is_access (LoadStoreIndexed size transfer offset mode rn rt) = not (is_prefetch size transfer)
-is_access (LoadStoreRegister size transfer rm extend scaled rn rt) = not (is_prefetch size transfer)
-is_access _ = false
+use Rattle.a64_address.specs.Address.{plus, shifted_left, address_of, back_of}
 
 -- the table
 unfoldable pub memory_shape : CoreData → Instr → Option MemShape
@@ -40,7 +20,7 @@ memory_shape core (LoadLiteral kind offset rt) =
     else Some (
     record {
       at = plus core.pc (shifted_left offset 2);
-      width = 2 ^ literal_scale kind;
+      width = 2 ^ scale_of (literal_size kind);
       count = 1;
       store = false;
       base_sp = false;
@@ -51,12 +31,12 @@ memory_shape core (LoadLiteral kind offset rt) =
 memory_shape core (Pair kind mode load offset rt2 rn rt) =
     Some (
     record {
-      at = address_of mode (base_of core rn) (shifted_left offset (pair_scale kind));
-      width = 2 ^ pair_scale kind;
+      at = address_of mode (x_or_sp core rn.0) (shifted_left offset (scale_of (pair_size kind)));
+      width = 2 ^ scale_of (pair_size kind);
       count = 2;
       store = not load;
-      base_sp = is_sp rn;
-      back = back_of mode (base_of core rn) (shifted_left offset (pair_scale kind));
+      base_sp = is_sp rn.0;
+      back = back_of mode (x_or_sp core rn.0) (shifted_left offset (scale_of (pair_size kind)));
       isv = false;
     }
     )
@@ -64,11 +44,11 @@ memory_shape core (LoadStoreUnsigned size transfer imm12 rn rt) =
     if is_prefetch size transfer then None
     else Some (
     record {
-      at = plus (base_of core rn) (shifted_left imm12 (scale_of size));
+      at = plus (x_or_sp core rn.0) (shifted_left imm12 (scale_of size));
       width = 2 ^ scale_of size;
       count = 1;
       store = is_store transfer;
-      base_sp = is_sp rn;
+      base_sp = is_sp rn.0;
       back = None;
       isv = true;
     }
@@ -77,12 +57,12 @@ memory_shape core (LoadStoreIndexed size transfer offset mode rn rt) =
     if is_prefetch size transfer then None
     else Some (
     record {
-      at = address_of mode (base_of core rn) offset;
+      at = address_of mode (x_or_sp core rn.0) offset;
       width = 2 ^ scale_of size;
       count = 1;
       store = is_store transfer;
-      base_sp = is_sp rn;
-      back = back_of mode (base_of core rn) offset;
+      base_sp = is_sp rn.0;
+      back = back_of mode (x_or_sp core rn.0) offset;
       isv = not (writes_back mode);
     }
     )
@@ -90,11 +70,11 @@ memory_shape core (LoadStoreRegister size transfer rm extend scaled rn rt) =
     if is_prefetch size transfer then None
     else Some (
     record {
-      at = plus (base_of core rn) (shifted_left (extended extend (x_of core rm.0)) (if scaled then scale_of size else 0));
+      at = plus (x_or_sp core rn.0) (shifted_left (extended extend (x_of core rm.0)) (if scaled then scale_of size else 0));
       width = 2 ^ scale_of size;
       count = 1;
       store = is_store transfer;
-      base_sp = is_sp rn;
+      base_sp = is_sp rn.0;
       back = None;
       isv = true;
     }
@@ -104,3 +84,21 @@ memory_shape core _ = None
 -- the numbers of elements
 abbrev pub IsCount : ℕ → Type 0
 IsCount count = (count ≡ 1) ⊎ (count ≡ 2)
+
+-- a shape has the width of the access that the word says, stores where that does, and says that a syndrome describes it
+-- exactly where that does
+pub record IsShapeOf (access : MemAccess) (shape : MemShape) : Type 0 where
+  pub width : shape.width ≡ 2 ^ scale_of access.size
+  pub store : shape.store ≡ access.store
+  pub isv : shape.isv ≡ access.described
+
+-- there is a shape exactly where there is an access, and it is that of the access
+abbrev pub Agree : Option MemAccess → Option MemShape → Type 0
+Agree None None = Unit {0}
+Agree None (Some shape) = ⊥
+Agree (Some access) None = ⊥
+Agree (Some access) (Some shape) = IsShapeOf access shape
+
+-- what an instruction asks of memory agrees with what its word says
+abbrev pub ShapesAgree : Type 0
+ShapesAgree = (core : CoreData) (instr : Instr) → Agree (access_of instr) (memory_shape core instr)

@@ -4,7 +4,7 @@
 //! Whether an access is allowed, and what is loaded to or stored from a register, is said by the crates above.
 #![tactic(auto)]
 
-pub use shape::{MemShape, shape_of};
+pub use shape::{MemShape, shape_of, shapes_agree};
 
 mod address;
 mod shape;

@@ -1,10 +1,16 @@
 ghost use Rattle.std.specs.Prelude.{◌≡◌, ◌^◌, ◌&&◌, ◌==◌, ◌↔◌, if◌then◌else◌, true, false, IsTrue, IsSome, IfSome, is_none, not};
-ghost use Rattle.a64_decode.specs.Lawful.{IsLawful, IsReg, is_prefetch, writes_back};
-ghost use Rattle.a64_address.specs.Address.{scale_of, pair_scale, literal_scale, plus, shifted_left, base_of, is_sp, address_of, back_of};
-ghost use Rattle.a64_address.specs.Shape.{is_access, is_literal_prefetch, is_store, IsWidth, IsCount, memory_shape};
+ghost use Rattle.bao_types.specs.Bytes.{IsWidth};
+ghost use Rattle.a64_state.specs.Registers.{x_of, x_or_sp, is_sp};
+ghost use Rattle.a64_decode.specs.Lawful.{IsLawful, IsReg, is_prefetch as prefetches, writes_back};
+ghost use Rattle.a64_decode.specs.Operands.{extended as extended_as};
+ghost use Rattle.a64_decode.specs.Access.{scale_of, pair_size, literal_size, is_literal_prefetch, is_store, access_of};
+ghost use Rattle.a64_address.specs.Address.{plus, shifted_left, address_of, back_of};
+ghost use Rattle.a64_address.specs.Shape.{IsCount, memory_shape, ShapesAgree};
 
-use crate::address::{address, back, base, bytes, extended, literal_bytes, pair_bytes};
-use a64_decode::{IndexMode, Instr, LiteralKind, PairKind, Reg, Size, Transfer};
+use crate::address::{address, back};
+use a64_decode::{
+    Extend, IndexMode, Instr, LiteralKind, PairKind, Reg, Size, Transfer, extended, is_prefetch,
+};
 use a64_state::Core;
 
 /// What a load or a store asks of memory: `count` elements of `width` bytes, one behind the other from `at` on.
@@ -30,65 +36,55 @@ pub struct MemShape {
 
 /// What an instruction asks of memory, or None where it is no load or store. A prefetch is neither (ARM DDI 0487,
 /// "Loads and stores").
-#[tactic(auto, unfolding(crate::specs::Shape::memory_shape))]
+#[tactic(auto, unfolding(crate::specs::Shape::memory_shape, a64_decode::specs::Access::access_of))]
+#[rattlefmt::skip]
 pub fn shape_of(core: &Core, instr: &Instr) -> Option<MemShape>
     requires { IsLawful instr.now }
     ensures shape { result ≡ memory_shape core.now instr.now }
-    ensures access { IsSome result ↔ IsTrue (is_access instr.now) }
+    ensures access { IsSome result ↔ IsSome (access_of instr.now) }
     ensures width { IfSome result (λ s. IsWidth s.width) }
     ensures count { IfSome result (λ s. IsCount s.count) }
     ensures syndrome { IfSome result (λ s. s.isv ≡ (s.count == 1 && is_none s.back)) }
 {
     match *instr {
-        Instr::LoadLiteral { kind, offset, .. } => literal(core, kind, offset.wrapping_mul(4)),
-        Instr::Pair {
-            kind,
-            mode,
-            load,
-            offset,
-            rn,
-            ..
-        } => Some(pair(core, kind, mode, load, rn, offset)),
-        Instr::LoadStoreUnsigned {
-            size,
-            transfer,
-            imm12,
-            rn,
-            ..
-        } => {
-            let offset = (imm12 as u64).wrapping_mul(bytes(size) as u64);
+        Instr::LoadLiteral { kind, offset, .. } => literal(core, kind, offset),
+        Instr::Pair { kind, mode, load, offset, rn, .. } => Some(pair(core, kind, mode, load, rn, offset)),
+        Instr::LoadStoreUnsigned { size, transfer, imm12, rn, .. } => {
+            let offset = scaled_by(size, true, u64::from(imm12));
             single(core, size, transfer, IndexMode::Offset, rn, offset)
         }
-        Instr::LoadStoreIndexed {
-            size,
-            transfer,
-            offset,
-            mode,
-            rn,
-            ..
-        } => single(core, size, transfer, mode, rn, offset),
-        Instr::LoadStoreRegister {
-            size,
-            transfer,
-            rm,
-            extend,
-            scaled,
-            rn,
-            ..
-        } => {
-            let unit = if scaled { bytes(size) } else { 1 };
-            let offset = extended(extend, core.read_x(rm.0)).wrapping_mul(unit as u64);
+        Instr::LoadStoreIndexed { size, transfer, offset, mode, rn, .. } =>
+            single(core, size, transfer, mode, rn, offset),
+        Instr::LoadStoreRegister { size, transfer, rm, extend, scaled, rn, .. } => {
+            let offset = scaled_by(size, scaled, extended(extend, core.read_x(rm.0)));
             single(core, size, transfer, IndexMode::Offset, rn, offset)
         }
         _ => None,
     }
 }
 
-/// A load of a literal at an offset from the instruction itself.
+/// What an instruction asks of memory agrees with what its word says of the access: its width, whether it stores, and
+/// whether the syndrome of an abort describes it. The function does nothing; its contract is the law.
+pub fn shapes_agree()
+    ensures { ShapesAgree }
+{}
+
+/// An offset that counts elements, where it is scaled, in bytes.
+fn scaled_by(size: Size, scaled: bool, offset: u64) -> u64
+    ensures { result ≡ shifted_left offset (if scaled then scale_of size else 0) }
+{
+    if scaled {
+        offset.wrapping_mul(u64::from(size.bytes()))
+    } else {
+        offset
+    }
+}
+
+/// A load of a literal at an offset in words from the instruction itself.
 fn literal(core: &Core, kind: LiteralKind, offset: u64) -> Option<MemShape>
     ensures shape { result ≡ (if is_literal_prefetch kind then None else Some (record {
-      at = plus core.now.pc offset;
-      width = 2 ^ literal_scale kind;
+      at = plus core.now.pc (shifted_left offset 2);
+      width = 2 ^ scale_of (literal_size kind);
       count = 1;
       store = false;
       base_sp = false;
@@ -104,8 +100,8 @@ fn literal(core: &Core, kind: LiteralKind, offset: u64) -> Option<MemShape>
         return None;
     }
     Some(MemShape {
-        at: core.pc.wrapping_add(offset),
-        width: literal_bytes(kind),
+        at: core.pc.wrapping_add(offset.wrapping_mul(4)),
+        width: kind.size().bytes(),
         count: 1,
         store: false,
         base_sp: false,
@@ -124,27 +120,27 @@ fn single(
     offset: u64,
 ) -> Option<MemShape>
     requires { IsReg rn }
-    ensures shape { result ≡ (if is_prefetch size transfer then None else Some (record {
-      at = address_of mode (base_of core.now rn) offset;
+    ensures shape { result ≡ (if prefetches size transfer then None else Some (record {
+      at = address_of mode (x_or_sp core.now rn.0) offset;
       width = 2 ^ scale_of size;
       count = 1;
       store = is_store transfer;
-      base_sp = is_sp rn;
-      back = back_of mode (base_of core.now rn) offset;
+      base_sp = is_sp rn.0;
+      back = back_of mode (x_or_sp core.now rn.0) offset;
       isv = not (writes_back mode);
     })) }
-    ensures access { IsSome result ↔ IsTrue (not (is_prefetch size transfer)) }
+    ensures access { IsSome result ↔ IsTrue (not (prefetches size transfer)) }
     ensures width { IfSome result (λ s. IsWidth s.width) }
     ensures count { IfSome result (λ s. IsCount s.count) }
     ensures syndrome { IfSome result (λ s. s.isv ≡ (s.count == 1 && is_none s.back)) }
 {
-    if size == Size::Double && transfer == Transfer::LoadSigned {
+    if is_prefetch(size, transfer) {
         return None;
     }
-    let base = base(core, rn);
+    let base = core.read_x_or_sp(rn.0);
     Some(MemShape {
         at: address(mode, base, offset),
-        width: bytes(size),
+        width: size.bytes(),
         count: 1,
         store: transfer == Transfer::Store,
         base_sp: rn.0 == 31,
@@ -157,22 +153,22 @@ fn single(
 fn pair(core: &Core, kind: PairKind, mode: IndexMode, load: bool, rn: Reg, offset: u64) -> MemShape
     requires { IsReg rn }
     ensures shape { result ≡ record {
-      at = address_of mode (base_of core.now rn) (shifted_left offset (pair_scale kind));
-      width = 2 ^ pair_scale kind;
+      at = address_of mode (x_or_sp core.now rn.0) (shifted_left offset (scale_of (pair_size kind)));
+      width = 2 ^ scale_of (pair_size kind);
       count = 2;
       store = not load;
-      base_sp = is_sp rn;
-      back = back_of mode (base_of core.now rn) (shifted_left offset (pair_scale kind));
+      base_sp = is_sp rn.0;
+      back = back_of mode (x_or_sp core.now rn.0) (shifted_left offset (scale_of (pair_size kind)));
       isv = false;
     } }
     ensures width { IsWidth result.width }
     ensures count { IsCount result.count }
     ensures syndrome { result.isv ≡ (result.count == 1 && is_none result.back) }
 {
-    let width = pair_bytes(kind);
+    let width = kind.size().bytes();
     let base_sp = rn.0 == 31;
-    let base = base(core, rn);
-    let offset = offset.wrapping_mul(width as u64);
+    let base = core.read_x_or_sp(rn.0);
+    let offset = offset.wrapping_mul(u64::from(width));
     MemShape {
         at: address(mode, base, offset),
         width,

@@ -1,6 +1,7 @@
 use crate::{MemShape, shape_of};
 use a64_decode::decode;
-use a64_state::{Core, pstate};
+use a64_state::{Core, Mode};
+use std::process::Abort;
 
 /// An instruction, its word, and the fields of the shape: the address, the bytes of an element, the elements, whether
 /// it stores, whether the base is SP, what is written back, and ISV.
@@ -42,7 +43,7 @@ const STACK: u64 = 0x8000;
 const PC: u64 = 0x4000;
 
 #[rattlefmt::skip]
-const OFFSETS: [Row; 33] = [
+static OFFSETS: [Row; 33] = [
     // shows                  word         at                     width count        base back  isv
     ("strb w0, [x1, #4095]",  0x393F_FC20, 0x1_0FFF,              1,    1,    STORE, X,   None, true),
     ("ldrb w0, [x1, #1]",     0x3940_0420, 0x1_0001,              1,    1,    LOAD,  X,   None, true),
@@ -80,7 +81,7 @@ const OFFSETS: [Row; 33] = [
 ];
 
 #[rattlefmt::skip]
-const INDEXED: [Row; 32] = [
+static INDEXED: [Row; 32] = [
     // shows                  word         at                     width count        base back                         isv
     ("strb w0, [x1], #-256",  0x3810_0420, 0x1_0000,              1,    1,    STORE, X,   Some(0xFF00),                false),
     ("ldrb w0, [x1], #255",   0x384F_F420, 0x1_0000,              1,    1,    LOAD,  X,   Some(0x1_00FF),              false),
@@ -117,7 +118,7 @@ const INDEXED: [Row; 32] = [
 ];
 
 #[rattlefmt::skip]
-const REGISTERS: [Row; 33] = [
+static REGISTERS: [Row; 33] = [
     // shows                        word         at              width count        base back  isv
     ("strb w0, [x1, w2, uxtw]",     0x3822_4820, 0x1_0000_FFF0,  1,    1,    STORE, X,   None, true),
     ("strb w0, [x1, w2, uxtw #0]",  0x3822_5820, 0x1_0000_FFF0,  1,    1,    STORE, X,   None, true),
@@ -155,7 +156,7 @@ const REGISTERS: [Row; 33] = [
 ];
 
 #[rattlefmt::skip]
-const LITERALS: [Row; 9] = [
+static LITERALS: [Row; 9] = [
     // shows              word         at                     width count       base back  isv
     ("ldr w0, #0",        0x1800_0000, 0x4000,                4,    1,    LOAD, X,   None, true),
     ("ldr w0, #4",        0x1800_0020, 0x4004,                4,    1,    LOAD, X,   None, true),
@@ -169,7 +170,7 @@ const LITERALS: [Row; 9] = [
 ];
 
 #[rattlefmt::skip]
-const PAIRS: [Row; 22] = [
+static PAIRS: [Row; 22] = [
     // shows                      word         at                     width count        base back                         isv
     ("stp w0, w5, [x1, #252]",    0x291F_9420, 0x1_00FC,              4,    2,    STORE, X,   None,                        false),
     ("ldp w0, w5, [x1, #-256]",   0x2960_1420, 0xFF00,                4,    2,    LOAD,  X,   None,                        false),
@@ -206,55 +207,62 @@ fn asked(word: u32) -> Option<MemShape> {
     shape_of(&core, &decode(word))
 }
 
-/// The first row whose word asks for something else.
-fn first_wrong(rows: &[Row]) -> Option<&'static str> {
-    for &(shows, word, at, width, count, store, base_sp, back, isv) in rows {
-        let shape = MemShape {
-            at,
-            width,
-            count,
-            store,
-            base_sp,
-            back,
-            isv,
-        };
-        if asked(word) != Some(shape) {
-            return Some(shows);
-        }
+fn check_rows(rt: &impl Abort, rows: &[Row]) {
+    for row in rows {
+        check_row(rt, row);
     }
-    None
+}
+
+fn check_row(rt: &impl Abort, row: &Row) {
+    let (shows, word, at, width, count, store, base_sp, back, isv) = *row;
+    let shape = MemShape {
+        at,
+        width,
+        count,
+        store,
+        base_sp,
+        back,
+        isv,
+    };
+    assert_eq!(rt; asked(word), Some(shape), "{shows}");
 }
 
 #[test]
 fn loads_and_stores(rt: HostRuntime) {
-    assert_eq!(rt; first_wrong(&OFFSETS), None);
-    assert_eq!(rt; first_wrong(&INDEXED), None);
-    assert_eq!(rt; first_wrong(&REGISTERS), None);
-    assert_eq!(rt; first_wrong(&LITERALS), None);
-    assert_eq!(rt; first_wrong(&PAIRS), None);
+    check_rows(&rt, OFFSETS.as_slice());
+    check_rows(&rt, INDEXED.as_slice());
+    check_rows(&rt, REGISTERS.as_slice());
+    check_rows(&rt, LITERALS.as_slice());
+    check_rows(&rt, PAIRS.as_slice());
 }
+
+#[rattlefmt::skip]
+static NO_ACCESS: [(&str, u32); 12] = [
+    // shows                             word
+    ("prfm pldl1keep, #8",               0xD800_0040),
+    ("prfm pldl1keep, [x1, #8]",         0xF980_0420),
+    ("prfm pldl1keep, [sp, x2, lsl #3]", 0xF8A2_7BE0),
+    ("prfum pldl1keep, [x1, #-8]",       0xF89F_8020),
+    ("add x0, x1, #1",                   0x9100_0420),
+    ("ldadd w0, w1, [x2]",               0xB820_0041),
+    ("b #4",                             0x1400_0001),
+    ("nop",                              0xD503_201F),
+    ("svc #0",                           0xD400_0001),
+    ("mrs x0, nzcv",                     0xD53B_4200),
+    ("adr x0, #4",                       0x1000_0020),
+    ("dc civac, x1",                     0xD50B_7E21),
+];
 
 #[test]
 fn no_access(rt: HostRuntime) {
-    #[rattlefmt::skip]
-    const ROWS: [(&str, u32); 12] = [
-        // shows                             word
-        ("prfm pldl1keep, #8",               0xD800_0040),
-        ("prfm pldl1keep, [x1, #8]",         0xF980_0420),
-        ("prfm pldl1keep, [sp, x2, lsl #3]", 0xF8A2_7BE0),
-        ("prfum pldl1keep, [x1, #-8]",       0xF89F_8020),
-        ("add x0, x1, #1",                   0x9100_0420),
-        ("ldadd w0, w1, [x2]",               0xB820_0041),
-        ("b #4",                             0x1400_0001),
-        ("nop",                              0xD503_201F),
-        ("svc #0",                           0xD400_0001),
-        ("mrs x0, nzcv",                     0xD53B_4200),
-        ("adr x0, #4",                       0x1000_0020),
-        ("dc civac, x1",                     0xD50B_7E21),
-    ];
-    for (shows, word) in ROWS {
-        assert_eq!(rt; asked(word), None, "{shows}");
+    for row in NO_ACCESS.as_slice() {
+        check_no_access(&rt, row);
     }
+}
+
+fn check_no_access(rt: &impl Abort, row: &(&'static str, u32)) {
+    let (shows, word) = *row;
+    assert_eq!(rt; asked(word), None, "{shows}");
 }
 
 /// At EL0 the base is SP_EL0.
@@ -263,7 +271,7 @@ fn selected_stack_pointer(rt: HostRuntime) {
     let mut core = Core::reset(0);
     core.sp0 = 0x9000;
     core.sp1 = STACK;
-    core.pstate = pstate::EL0T;
+    core.set_mode(Mode::El0t);
     let pop = decode(0xF841_07E0); // ldr x0, [sp], #16
     let shape = MemShape {
         at: 0x9000,

@@ -1,3 +1,3 @@
 mod Bits
 mod Signs
-mod Groups
+mod Rows

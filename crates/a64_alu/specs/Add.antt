@@ -3,12 +3,13 @@ use Rattle.std.specs.Prelude.{ℕ, ◌*◌, ◌%◌, ◌^◌, Bool, true, if◌t
 use Rattle.bao_types.specs.Sum.{add_carry_of}
 use Rattle.bao_types.specs.declared.sum.Sum.{Sum}
 use Rattle.a64_state.specs.Core.{CoreData}
-use Rattle.a64_decode.specs.Operands.{sign_extend}
+use Rattle.a64_state.specs.Pstate.{nzcv}
+use Rattle.a64_state.specs.Registers.{with_x_or_sp}
+use Rattle.a64_decode.specs.Operands.{extended}
 use Rattle.a64_decode.specs.declared.operand.Reg.{Reg}
 use Rattle.a64_decode.specs.declared.operand.Extend.{Extend}
-use Rattle.a64_decode.specs.declared.operand.Extend.TheVariants.{Uxtb, Uxth, Uxtw, Uxtx, Sxtb, Sxth, Sxtw, Sxtx}
 use Rattle.a64_alu.specs.Numbers.{inverted}
-use Rattle.a64_alu.specs.Results.{with_x_or_sp, nzcv, with_x_and_flags}
+use Rattle.a64_alu.specs.Results.{with_x_and_flags}
 
 -- x + y + carry, or x - y - 1 + carry: a subtraction adds the inverted number
 unfoldable pub total : Bool → Bool → ℕ → ℕ → Bool → Sum
@@ -24,22 +25,11 @@ with_sum core rd set sum = with_x_and_flags core rd sum.value set (flags_of sum)
 
 -- the same, but without flags register 31 is SP
 unfoldable pub with_sum_or_sp : CoreData → Reg → Bool → Sum → CoreData
-with_sum_or_sp core rd set sum = if set then with_sum core rd true sum else with_x_or_sp core rd sum.value
+with_sum_or_sp core rd set sum = if set then with_sum core rd true sum else with_x_or_sp core rd.0 sum.value
 
 -- a number of 12 bits, or 4096 times as much
 abbrev pub number_of : Bool → ℕ → ℕ
 number_of shifted imm12 = if shifted then imm12 * 2 ^ 12 else imm12
-
--- the lowest 8, 16, 32 or 64 bits, followed by zeros or by copies of the highest of them
-abbrev pub extended : Extend → ℕ → ℕ
-extended Uxtb value = value % 2 ^ 8
-extended Uxth value = value % 2 ^ 16
-extended Uxtw value = value % 2 ^ 32
-extended Uxtx value = value
-extended Sxtb value = sign_extend 8 (value % 2 ^ 8)
-extended Sxth value = sign_extend 16 (value % 2 ^ 16)
-extended Sxtw value = sign_extend 32 (value % 2 ^ 32)
-extended Sxtx value = value
 
 -- an extended number, shifted left
 unfoldable pub extended_left : Extend → ℕ → ℕ → ℕ

@@ -1,12 +1,12 @@
 -- The data processing instructions (ARM DDI 0487, "A64 Base Instructions"): an equation a row of the table of words.
-use Rattle.std.specs.Prelude.{ℕ, ◌*◌, Bool, true, false, ◌==◌, if◌then◌else◌}
+use Rattle.std.specs.Prelude.{ℕ, ◌*◌, Bool, true, false, if◌then◌else◌}
 use Rattle.a64_state.specs.Core.{CoreData}
 use Rattle.a64_state.specs.Pstate.{carry_flag}
-use Rattle.a64_state.specs.Registers.{x_of, with_x}
+use Rattle.a64_state.specs.Registers.{x_of, with_x, x_or_sp}
 use Rattle.a64_decode.specs.Lawful.{width_of}
 use Rattle.a64_decode.specs.declared.instr.Instr.{Instr}
 use Rattle.a64_decode.specs.declared.instr.Instr.TheVariants.{Address, AddSubImmediate, LogicalImmediate, MoveWide, Bitfield, Extract, LogicalShifted, AddSubShifted, AddSubExtended, AddSubCarry, ConditionalCompare, ConditionalSelect, ThreeSources, TwoSources, OneSource}
-use Rattle.a64_alu.specs.Results.{low_x, x_or_sp, with_flags}
+use Rattle.a64_alu.specs.Results.{low_x, with_nzcv}
 use Rattle.a64_alu.specs.Add.{total, flags_of, with_sum, with_sum_or_sp, number_of, extended_left}
 use Rattle.a64_alu.specs.Shifts.{shifted}
 use Rattle.a64_alu.specs.Logical.{combined, with_logical, with_logical_or_sp, mask_of, inverted_if}
@@ -39,7 +39,7 @@ is_data_processing _ = false
 unfoldable pub computed : Instr → CoreData → CoreData
 computed (Address page offset rd) core = with_x core rd.0 (address_of page core.pc offset)
 computed (AddSubImmediate wide subtract flags shift imm12 rn rd) core =
-    with_sum_or_sp core rd flags (total wide subtract (x_or_sp core rn) (number_of shift imm12) subtract)
+    with_sum_or_sp core rd flags (total wide subtract (x_or_sp core rn.0) (number_of shift imm12) subtract)
 computed (LogicalImmediate wide kind n immr imms rn rd) core =
     let width : ℕ = width_of wide in
     with_logical_or_sp core width kind rd (combined kind (low_x core width rn) (mask_of n immr imms wide))
@@ -62,12 +62,12 @@ computed (AddSubShifted wide subtract flags shift rm amount rn rd) core =
     with_sum core rd flags (total wide subtract (x_of core rn.0) operand subtract)
 computed (AddSubExtended wide subtract flags rm extend amount rn rd) core =
     let operand : ℕ = extended_left extend (x_of core rm.0) amount in
-    with_sum_or_sp core rd flags (total wide subtract (x_or_sp core rn) operand subtract)
+    with_sum_or_sp core rd flags (total wide subtract (x_or_sp core rn.0) operand subtract)
 computed (AddSubCarry wide subtract flags rm rn rd) core =
-    with_sum core rd flags (total wide subtract (x_of core rn.0) (x_of core rm.0) (carry_flag core.pstate == 1))
+    with_sum core rd flags (total wide subtract (x_of core rn.0) (x_of core rm.0) (carry_flag core.pstate))
 computed (ConditionalCompare wide subtract operand condition rn nzcv) core =
     let compared : ℕ = flags_of (total wide subtract (x_of core rn.0) (operand_of core operand) subtract) in
-    with_flags core (if holds condition core.pstate then compared else nzcv)
+    with_nzcv core (if holds condition core.pstate then compared else nzcv)
 computed (ConditionalSelect wide kind rm condition rn rd) core =
     let width : ℕ = width_of wide in
     let other : ℕ = changed width kind (low_x core width rm) in

@@ -1,5 +1,5 @@
 -- Conditions (ARM DDI 0487, "ConditionHolds"), and what depends on them.
-use Rattle.std.specs.Prelude.{ℕ, ◌+◌, ◌-◌, ◌%◌, ◌^◌, Bool, true, not, ◌&&◌, ◌==◌}
+use Rattle.std.specs.Prelude.{ℕ, ◌+◌, ◌-◌, ◌%◌, ◌^◌, Bool, true, false, not, ◌&&◌}
 use Rattle.a64_state.specs.Core.{CoreData}
 use Rattle.a64_state.specs.Pstate.{negative_flag, zero_flag, carry_flag, overflow_flag}
 use Rattle.a64_state.specs.Registers.{x_of}
@@ -11,22 +11,27 @@ use Rattle.a64_decode.specs.declared.operand.SelectKind.{SelectKind}
 use Rattle.a64_decode.specs.declared.operand.SelectKind.TheVariants.{Csel, Csinc, Csinv, Csneg}
 use Rattle.a64_alu.specs.Numbers.{inverted}
 
+-- both hold, or neither
+abbrev pub agree : Bool → Bool → Bool
+agree true other = other
+agree false other = not other
+
 -- whether a condition holds by the flags in PSTATE
 unfoldable pub holds : Condition → ℕ → Bool
-holds condition.Eq pstate = zero_flag pstate == 1
-holds condition.Ne pstate = zero_flag pstate == 0
-holds condition.Cs pstate = carry_flag pstate == 1
-holds condition.Cc pstate = carry_flag pstate == 0
-holds condition.Mi pstate = negative_flag pstate == 1
-holds condition.Pl pstate = negative_flag pstate == 0
-holds condition.Vs pstate = overflow_flag pstate == 1
-holds condition.Vc pstate = overflow_flag pstate == 0
-holds condition.Hi pstate = (carry_flag pstate == 1) && (zero_flag pstate == 0)
-holds condition.Ls pstate = not ((carry_flag pstate == 1) && (zero_flag pstate == 0))
-holds condition.Ge pstate = negative_flag pstate == overflow_flag pstate
-holds condition.Lt pstate = not (negative_flag pstate == overflow_flag pstate)
-holds condition.Gt pstate = (negative_flag pstate == overflow_flag pstate) && (zero_flag pstate == 0)
-holds condition.Le pstate = not ((negative_flag pstate == overflow_flag pstate) && (zero_flag pstate == 0))
+holds condition.Eq pstate = zero_flag pstate
+holds condition.Ne pstate = not (zero_flag pstate)
+holds condition.Cs pstate = carry_flag pstate
+holds condition.Cc pstate = not (carry_flag pstate)
+holds condition.Mi pstate = negative_flag pstate
+holds condition.Pl pstate = not (negative_flag pstate)
+holds condition.Vs pstate = overflow_flag pstate
+holds condition.Vc pstate = not (overflow_flag pstate)
+holds condition.Hi pstate = carry_flag pstate && not (zero_flag pstate)
+holds condition.Ls pstate = not (carry_flag pstate && not (zero_flag pstate))
+holds condition.Ge pstate = agree (negative_flag pstate) (overflow_flag pstate)
+holds condition.Lt pstate = not (agree (negative_flag pstate) (overflow_flag pstate))
+holds condition.Gt pstate = agree (negative_flag pstate) (overflow_flag pstate) && not (zero_flag pstate)
+holds condition.Le pstate = not (agree (negative_flag pstate) (overflow_flag pstate) && not (zero_flag pstate))
 holds condition.Al pstate = true
 holds condition.Nv pstate = true
 

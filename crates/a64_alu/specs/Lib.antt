@@ -9,4 +9,3 @@ pub mod Products
 pub mod Quotients
 pub mod Reversals
 pub mod Computed
-pub mod Groups

@@ -6,7 +6,9 @@ use Rattle.a64_decode.specs.declared.operand.Reg.{Reg}
 use Rattle.a64_decode.specs.declared.operand.LogicalKind.{LogicalKind}
 use Rattle.a64_decode.specs.declared.operand.LogicalKind.TheVariants.{And, Orr, Eor, Ands}
 use Rattle.a64_alu.specs.Numbers.{inverted}
-use Rattle.a64_alu.specs.Results.{with_x_or_sp, nzcv, with_x_and_flags}
+use Rattle.a64_state.specs.Pstate.{nzcv}
+use Rattle.a64_state.specs.Registers.{with_x_or_sp}
+use Rattle.a64_alu.specs.Results.{with_x_and_flags}
 
 -- bit by bit
 unfoldable pub combined : LogicalKind → ℕ → ℕ → ℕ
@@ -17,8 +19,10 @@ combined Ands x y = bit_and x y
 
 -- the one operation that sets the flags
 abbrev pub sets_flags : LogicalKind → Bool
+sets_flags And = false
+sets_flags Orr = false
+sets_flags Eor = false
 sets_flags Ands = true
-sets_flags _ = false
 
 -- N is the highest bit of the result; C and V are clear
 abbrev pub logical_flags : ℕ → ℕ → ℕ
@@ -31,7 +35,7 @@ with_logical core width kind rd value = with_x_and_flags core rd value (sets_fla
 -- the same, but without flags register 31 is SP
 unfoldable pub with_logical_or_sp : CoreData → ℕ → LogicalKind → Reg → ℕ → CoreData
 with_logical_or_sp core width kind rd value =
-    if sets_flags kind then with_logical core width kind rd value else with_x_or_sp core rd value
+    if sets_flags kind then with_logical core width kind rd value else with_x_or_sp core rd.0 value
 
 -- a mask that isn't reserved
 unfoldable pub mask_of : ℕ → ℕ → ℕ → Bool → ℕ

@@ -1,12 +1,13 @@
 -- Addresses, wide moves, and the moves of fields.
 use Rattle.std.specs.Prelude.{ℕ, ◌+◌, ◌-◌, ◌*◌, ◌/◌, ◌%◌, ◌^◌, Bool, nat_le, if◌then◌else◌}
 use Rattle.bao_types.specs.Bits.{field}
+use Rattle.a64_state.specs.Bits.{with_bits}
 use Rattle.a64_decode.specs.Operands.{sign_extend}
 use Rattle.a64_decode.specs.declared.operand.MoveKind.{MoveKind}
 use Rattle.a64_decode.specs.declared.operand.MoveKind.TheVariants.{Movn, Movz, Movk}
 use Rattle.a64_decode.specs.declared.operand.BitfieldKind.{BitfieldKind}
 use Rattle.a64_decode.specs.declared.operand.BitfieldKind.TheVariants.{Sbfm, Bfm, Ubfm}
-use Rattle.a64_alu.specs.Numbers.{inverted, with_bits}
+use Rattle.a64_alu.specs.Numbers.{inverted}
 
 -- PC plus bytes, or the start of PC's page of 4096 bytes plus pages
 unfoldable pub address_of : Bool → ℕ → ℕ → ℕ

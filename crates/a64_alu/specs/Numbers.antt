@@ -1,5 +1,5 @@
 -- Numbers of so many bits, and what bits of them stand for.
-use Rattle.std.specs.Prelude.{ℕ, ◌+◌, ◌-◌, ◌*◌, ◌/◌, ◌%◌, ◌^◌, ℤ, pos, unsigned_abs}
+use Rattle.std.specs.Prelude.{ℕ, ◌-◌, ◌^◌, ℤ, pos, unsigned_abs}
 use Rattle.std.specs.Int.{int_rem_euclid}
 use Rattle.bao_types.specs.Sum.{signed}
 
@@ -14,7 +14,3 @@ modulo width number = unsigned_abs (int_rem_euclid number (pos (2 ^ width)))
 -- the signed number that the bits are, in two's complement
 abbrev pub as_signed : ℕ → ℕ → ℤ
 as_signed width value = signed (2 ^ (width - 1)) value
-
--- a number in which `part` has replaced the `count` bits from `place` on
-abbrev pub with_bits : ℕ → ℕ → ℕ → ℕ → ℕ
-with_bits value place count part = value / 2 ^ (place + count) * 2 ^ (place + count) + part * 2 ^ place + value % 2 ^ place

@@ -4,20 +4,30 @@
 ghost use Rattle.std.specs.Prelude.{◌≡◌, ◌≤◌, ◌<◌, ◌^◌};
 ghost use Rattle.a64_decode.specs.Lawful.{IsReg};
 ghost use Rattle.a64_alu.specs.Results.{ChangesOnlyResults};
-ghost use Rattle.a64_alu.specs.Add.{total as total_of, flags_of as flags_of_sum, with_sum, with_sum_or_sp, number_of, extended as extended_as, extended_left as extended_left_of};
+ghost use Rattle.a64_alu.specs.Add.{total as total_of, flags_of as flags_of_sum, with_sum, with_sum_or_sp, number_of, extended_left as extended_left_of};
 
-use crate::number::{inverted, low, sign_extend};
-use crate::result::{nzcv, write_x_and_flags, write_x_or_sp};
-use a64_decode::{Extend, Reg};
+use crate::number::inverted;
+use crate::result::{write_x_and_flags, write_x_or_sp};
+use a64_decode::{Extend, Reg, extended};
 use a64_state::Core;
+use a64_state::pstate::nzcv;
 use bao_types::{Sum, add_carry};
 
+/// The form of an addition or a subtraction.
+#[derive(Clone, Copy)]
+pub(crate) struct Form {
+    pub(crate) wide: bool,
+    pub(crate) subtract: bool,
+    /// Whether it sets the flags.
+    pub(crate) flags: bool,
+}
+
 /// A sum, or a difference as the sum with the inverted number.
-pub(crate) fn total(wide: bool, subtract: bool, x: u64, y: u64, carry: bool) -> Sum
-    ensures { result ≡ total_of wide subtract x y carry }
+pub(crate) fn total(form: Form, x: u64, y: u64, carry: bool) -> Sum
+    ensures { result ≡ total_of form.wide form.subtract x y carry }
 {
-    let y = if subtract { inverted(64, y) } else { y };
-    add_carry(x, y, carry, wide)
+    let y = if form.subtract { inverted(64, y) } else { y };
+    add_carry(x, y, carry, form.wide)
 }
 
 /// The flags of an addition.
@@ -55,23 +65,8 @@ pub(crate) fn number(shifted: bool, imm12: u16) -> u64
     requires { imm12 < 2 ^ 12 }
     ensures { result ≡ number_of shifted imm12 }
 {
-    let imm12 = imm12 as u64;
+    let imm12 = u64::from(imm12);
     if shifted { imm12 * (1 << 12) } else { imm12 }
-}
-
-/// The lowest 8, 16, 32 or 64 bits, followed by zeros or by copies of the highest of them.
-fn extended(extend: Extend, value: u64) -> u64
-    ensures { result ≡ extended_as extend value }
-{
-    match extend {
-        Extend::Uxtb => low(value, 8),
-        Extend::Uxth => low(value, 16),
-        Extend::Uxtw => low(value, 32),
-        Extend::Sxtb => sign_extend(8, low(value, 8)),
-        Extend::Sxth => sign_extend(16, low(value, 16)),
-        Extend::Sxtw => sign_extend(32, low(value, 32)),
-        Extend::Uxtx | Extend::Sxtx => value,
-    }
 }
 
 /// An extended number, shifted left.

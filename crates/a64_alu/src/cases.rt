@@ -11,7 +11,7 @@ pub(crate) const ADDED: u64 = 0x123_4567_89AB_CDEF;
 pub(crate) const STACK: u64 = 0x8000_0000_0000_1010;
 
 #[rattlefmt::skip]
-pub(crate) const ADDITIONS: [Row; 99] = [
+pub(crate) static ADDITIONS: [Row; 99] = [
     // word      x1 before              x2 before              flags  x0 after               SP after  flags after
     (0xAB02_0020, 0x0,                   0x0,                   0,     0x0,                   STACK,    4), // adds x0, x1, x2
     (0xAB02_0020, 0x0,                   0x1,                   0,     0x1,                   STACK,    0), // adds x0, x1, x2
@@ -115,7 +115,7 @@ pub(crate) const ADDITIONS: [Row; 99] = [
 ];
 
 #[rattlefmt::skip]
-pub(crate) const LOGIC: [Row; 70] = [
+pub(crate) static LOGIC: [Row; 70] = [
     // word      x1 before              x2 before              flags  x0 after               SP after  flags after
     (0x9240_0020, 0xF0E1_D2C3_B4A5_9687, 0x0,                   15,    0x1,                   STACK,    15), // and x0, x1, #0x1
     (0x9200_F020, 0xF0E1_D2C3_B4A5_9687, 0x0,                   15,    0x5041_5041_1405_1405, STACK,    15), // and x0, x1, #0x5555555555555555
@@ -190,7 +190,7 @@ pub(crate) const LOGIC: [Row; 70] = [
 ];
 
 #[rattlefmt::skip]
-pub(crate) const MOVES: [Row; 74] = [
+pub(crate) static MOVES: [Row; 74] = [
     // word      x1 before              x2 before             flags  x0 after               SP after  flags after
     (0x9294_B860, 0x0,                   0x0,                  0,     0xFFFF_FFFF_FFFF_5A3C, STACK,    0), // movn x0, #0xa5c3, lsl #0
     (0x92B4_B860, 0x0,                   0x0,                  0,     0xFFFF_FFFF_5A3C_FFFF, STACK,    0), // movn x0, #0xa5c3, lsl #16
@@ -269,7 +269,7 @@ pub(crate) const MOVES: [Row; 74] = [
 ];
 
 #[rattlefmt::skip]
-pub(crate) const CONDITIONS: [Row; 116] = [
+pub(crate) static CONDITIONS: [Row; 116] = [
     // word      x1 before              x2 before              flags  x0 after               SP after  flags after
     (0x9A82_0020, 0x1,                   0x2,                   2,     0x2,                   STACK,    2), // csel x0, x1, x2, eq
     (0x9A82_0020, 0x1,                   0x2,                   6,     0x1,                   STACK,    6), // csel x0, x1, x2, eq
@@ -390,7 +390,7 @@ pub(crate) const CONDITIONS: [Row; 116] = [
 ];
 
 #[rattlefmt::skip]
-pub(crate) const PRODUCTS: [Row; 86] = [
+pub(crate) static PRODUCTS: [Row; 86] = [
     // word      x1 before              x2 before              flags  x0 after               SP after  flags after
     (0x9B02_0C20, 0x0,                   0x0,                   0,     0x123_4567_89AB_CDEF,  STACK,    0), // madd x0, x1, x2, x3
     (0x9B02_8C20, 0x0,                   0x0,                   0,     0x123_4567_89AB_CDEF,  STACK,    0), // msub x0, x1, x2, x3
@@ -481,7 +481,7 @@ pub(crate) const PRODUCTS: [Row; 86] = [
 ];
 
 #[rattlefmt::skip]
-pub(crate) const REVERSALS: [Row; 94] = [
+pub(crate) static REVERSALS: [Row; 94] = [
     // word      x1 before              x2 before              flags  x0 after               SP after  flags after
     (0x9AC2_2020, 0xF0E1_D2C3_B4A5_9687, 0x1F,                  0,     0xDA52_CB43_8000_0000, STACK,    0), // lsl x0, x1, x2
     (0x9AC2_2020, 0xF0E1_D2C3_B4A5_9687, 0x20,                  0,     0xB4A5_9687_0000_0000, STACK,    0), // lsl x0, x1, x2
@@ -580,7 +580,7 @@ pub(crate) const REVERSALS: [Row; 94] = [
 ];
 
 #[rattlefmt::skip]
-pub(crate) const SPECIAL: [Row; 20] = [
+pub(crate) static SPECIAL: [Row; 20] = [
     // word      x1 before  x2 before              flags  x0 after               SP after               flags after
     (0x9100_43E0, 0x11,      0xFFFF_FFFF_0000_0300, 4,     0x8000_0000_0000_1020, STACK,                 4), // add x0, sp, #16
     (0x9100_43FF, 0x11,      0xFFFF_FFFF_0000_0300, 4,     0xFEDC_BA98_7654_3210, 0x8000_0000_0000_1020, 4), // add sp, sp, #16

@@ -5,35 +5,34 @@ ghost use Rattle.std.specs.Prelude.{◌≡◌, ◌≤◌, ◌<◌, ◌^◌};
 ghost use Rattle.a64_decode.specs.Lawful.{IsOperand};
 ghost use Rattle.a64_alu.specs.Conditions.{holds as holds_in, operand_of, changed as changed_by};
 
-use crate::number::{inverted, low};
-use a64_decode::{Condition, Operand, SelectKind};
-use a64_state::Core;
-use bao_types::field;
+use crate::number::inverted;
+use a64_decode::{Condition, Operand, SelectKind, low};
+use a64_state::{Core, pstate};
 
 /// Whether a condition holds by the flags in PSTATE, which are its bits 31 to 28: N, Z, C and V (ARM DDI 0487,
 /// "ConditionHolds").
 pub fn holds(condition: Condition, pstate: u32) -> bool
     ensures { result ≡ holds_in condition pstate }
 {
-    let negative = field(pstate, 31, 31);
-    let zero = field(pstate, 30, 30);
-    let carry = field(pstate, 29, 29);
-    let overflow = field(pstate, 28, 28);
+    let negative = pstate::negative(pstate);
+    let zero = pstate::zero(pstate);
+    let carry = pstate::carry(pstate);
+    let overflow = pstate::overflow(pstate);
     match condition {
-        Condition::Eq => zero == 1,
-        Condition::Ne => zero == 0,
-        Condition::Cs => carry == 1,
-        Condition::Cc => carry == 0,
-        Condition::Mi => negative == 1,
-        Condition::Pl => negative == 0,
-        Condition::Vs => overflow == 1,
-        Condition::Vc => overflow == 0,
-        Condition::Hi => carry == 1 && zero == 0,
-        Condition::Ls => !(carry == 1 && zero == 0),
+        Condition::Eq => zero,
+        Condition::Ne => !zero,
+        Condition::Cs => carry,
+        Condition::Cc => !carry,
+        Condition::Mi => negative,
+        Condition::Pl => !negative,
+        Condition::Vs => overflow,
+        Condition::Vc => !overflow,
+        Condition::Hi => carry && !zero,
+        Condition::Ls => !(carry && !zero),
         Condition::Ge => negative == overflow,
         Condition::Lt => negative != overflow,
-        Condition::Gt => negative == overflow && zero == 0,
-        Condition::Le => !(negative == overflow && zero == 0),
+        Condition::Gt => negative == overflow && !zero,
+        Condition::Le => !(negative == overflow && !zero),
         Condition::Al | Condition::Nv => true,
     }
 }
@@ -45,7 +44,7 @@ pub(crate) fn operand_value(core: &Core, operand: Operand) -> u64
 {
     match operand {
         Operand::Register(r) => core.read_x(r.0),
-        Operand::Immediate(number) => number as u64,
+        Operand::Immediate(number) => u64::from(number),
     }
 }
 

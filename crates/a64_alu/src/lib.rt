@@ -6,17 +6,20 @@
 
 pub use condition::holds;
 pub use dispatch::{alu, is_alu};
+pub use result::low_x;
 
 mod add;
 #[cfg(test)]
 mod cases;
 mod condition;
 mod dispatch;
+mod immediate;
 mod logical;
 mod moves;
 mod number;
 mod product;
 mod quotient;
+mod register;
 mod result;
 mod reversal;
 mod shift;

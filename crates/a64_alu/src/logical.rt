@@ -7,9 +7,10 @@ ghost use Rattle.a64_alu.specs.Results.{ChangesOnlyResults};
 ghost use Rattle.a64_alu.specs.Logical.{combined as combined_by, sets_flags as sets_flags_of, logical_flags as logical_flags_of, with_logical, with_logical_or_sp, mask_of, inverted_if as inverted_where};
 
 use crate::number::inverted;
-use crate::result::{nzcv, write_x_and_flags, write_x_or_sp};
+use crate::result::{write_x_and_flags, write_x_or_sp};
 use a64_decode::{LogicalKind, Reg};
 use a64_state::Core;
+use a64_state::pstate::nzcv;
 use bao_types::bitmask;
 
 /// Two numbers, combined bit by bit.
@@ -28,8 +29,8 @@ fn sets_flags(kind: LogicalKind) -> bool
     ensures { result ≡ sets_flags_of kind }
 {
     match kind {
+        LogicalKind::And | LogicalKind::Orr | LogicalKind::Eor => false,
         LogicalKind::Ands => true,
-        _ => false,
     }
 }
 
@@ -88,7 +89,7 @@ pub(crate) fn mask(n: u8, immr: u8, imms: u8, wide: bool) -> u64
     requires size { imms < 64 }
     ensures { result ≡ mask_of n immr imms wide }
 {
-    bitmask(n as u32, immr as u32, imms as u32, wide).unwrap_or(0)
+    bitmask(u32::from(n), u32::from(immr), u32::from(imms), wide).unwrap_or(0)
 }
 
 /// A second operand, with each bit inverted where the instruction asks for it.

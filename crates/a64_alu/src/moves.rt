@@ -4,8 +4,8 @@
 ghost use Rattle.std.specs.Prelude.{◌≡◌, ◌≤◌, ◌<◌, ◌+◌, ◌^◌};
 ghost use Rattle.a64_alu.specs.Moves.{address_of, moved as moved_by, placed as placed_by, field_moved as field_moved_by, extracted as extracted_from};
 
-use crate::number::{at, inverted, low, sign_extend, with_bits};
-use a64_decode::{BitfieldKind, MoveKind};
+use crate::number::{at, inverted, with_bits};
+use a64_decode::{BitfieldKind, MoveKind, low, sign_extend};
 
 /// PC plus bytes, or the start of PC's page of 4096 bytes plus pages.
 pub(crate) fn address(page: bool, pc: u64, offset: u64) -> u64
@@ -26,9 +26,9 @@ pub(crate) fn moved(width: u32, kind: MoveKind, old: u64, place: u32, imm16: u16
     ensures { result ≡ moved_by width kind old place imm16 }
 {
     match kind {
-        MoveKind::Movn => inverted(width, at(imm16 as u64, place, 16)),
-        MoveKind::Movz => at(imm16 as u64, place, 16),
-        MoveKind::Movk => with_bits(old, place, 16, imm16 as u64),
+        MoveKind::Movn => inverted(width, at(u64::from(imm16), place, 16)),
+        MoveKind::Movz => at(u64::from(imm16), place, 16),
+        MoveKind::Movk => with_bits(old, place, 16, u64::from(imm16)),
     }
 }
 
@@ -84,6 +84,6 @@ pub(crate) fn extracted(width: u32, high: u64, low: u64, amount: u32) -> u64
     ensures { result ≡ extracted_from width high low amount }
 {
     let end = 1u128 << width;
-    let pair = high as u128 * end + low as u128;
+    let pair = u128::from(high) * end + u128::from(low);
     ((pair >> amount) % end) as u64
 }

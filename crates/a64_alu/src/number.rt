@@ -1,31 +1,10 @@
-//! Numbers of so many bits.
+//! Numbers of so many bits, inverted, moved and replaced.
 
-ghost use Rattle.std.specs.Prelude.{◌≡◌, ◌≤◌, ◌<◌, ◌+◌, ◌*◌, ◌%◌, ◌^◌};
-ghost use Rattle.a64_decode.specs.Lawful.{width_of};
-ghost use Rattle.a64_decode.specs.Operands.{sign_extend as sign_extended};
-ghost use Rattle.a64_alu.specs.Numbers.{inverted as inverted_of, with_bits as with_bits_of};
+ghost use Rattle.std.specs.Prelude.{◌≡◌, ◌≤◌, ◌<◌, ◌+◌, ◌*◌, ◌^◌};
+ghost use Rattle.a64_state.specs.Bits.{with_bits as with_bits_of};
+ghost use Rattle.a64_alu.specs.Numbers.{inverted as inverted_of};
 
-/// The bits of a form.
-pub(crate) fn width(wide: bool) -> u32
-    ensures value { result ≡ width_of wide }
-    ensures least { 32 ≤ result }
-    ensures most { result ≤ 64 }
-{
-    if wide { 64 } else { 32 }
-}
-
-/// The lowest bits.
-pub(crate) fn low(value: u64, count: u32) -> u64
-    requires { count ≤ 64 }
-    ensures value { result ≡ value % 2 ^ count }
-    ensures bound { result < 2 ^ count }
-{
-    if count == 64 {
-        value
-    } else {
-        value % (1 << count)
-    }
-}
+use a64_decode::low;
 
 /// Each of the bits inverted.
 pub(crate) fn inverted(width: u32, value: u64) -> u64
@@ -38,20 +17,6 @@ pub(crate) fn inverted(width: u32, value: u64) -> u64
         u64::MAX - value
     } else {
         (1 << width) - 1 - value
-    }
-}
-
-/// A number of so many bits, with copies of the highest of them above up to bit 63.
-pub(crate) fn sign_extend(width: u32, value: u64) -> u64
-    requires some { 0 < width }
-    requires width { width ≤ 64 }
-    requires value { value < 2 ^ width }
-    ensures { result ≡ sign_extended width value }
-{
-    if width == 64 || value < 1 << (width - 1) {
-        value
-    } else {
-        value + (u64::MAX - ((1 << width) - 1))
     }
 }
 

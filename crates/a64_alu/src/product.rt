@@ -6,8 +6,7 @@ ghost use Rattle.bao_types.specs.Bits.{field};
 ghost use Rattle.a64_alu.specs.Numbers.{modulo, as_signed};
 ghost use Rattle.a64_alu.specs.Products.{product_of, signed_words as signed_words_of};
 
-use crate::number::low;
-use a64_decode::ProductKind;
+use a64_decode::{ProductKind, low};
 
 /// A product that is added to a number or subtracted from it, or the high half of a product of 128 bits.
 pub(crate) fn product(width: u32, kind: ProductKind, a: u64, n: u64, m: u64) -> u64
@@ -22,7 +21,7 @@ pub(crate) fn product(width: u32, kind: ProductKind, a: u64, n: u64, m: u64) -> 
         ProductKind::Smulh => signed_high_half(n, m),
         ProductKind::Umaddl => a.wrapping_add(low(n, 32) * low(m, 32)),
         ProductKind::Umsubl => a.wrapping_sub(low(n, 32) * low(m, 32)),
-        ProductKind::Umulh => ((n as u128 * m as u128) >> 64) as u64,
+        ProductKind::Umulh => ((u128::from(n) * u128::from(m)) >> 64) as u64,
     }
 }
 
@@ -30,7 +29,7 @@ pub(crate) fn product(width: u32, kind: ProductKind, a: u64, n: u64, m: u64) -> 
 fn signed_words(n: u64, m: u64) -> i64
     ensures { result ≡ signed_words_of n m }
 {
-    signed_word(n) as i64 * signed_word(m) as i64
+    i64::from(signed_word(n)) * i64::from(signed_word(m))
 }
 
 /// The signed number that the lowest 32 bits are.

@@ -17,7 +17,7 @@ pub(crate) fn two_sources(width: u32, kind: TwoSourceKind, n: u64, m: u64) -> u6
     requires m { m < 2 ^ width }
     ensures { result ≡ two_sources_of width kind n m }
 {
-    let amount = (m % width as u64) as u32;
+    let amount = (m % u64::from(width)) as u32;
     match kind {
         TwoSourceKind::Udiv => { if m == 0 { 0 } else { n / m } }
         TwoSourceKind::Sdiv => {

@@ -7,8 +7,8 @@ ghost use Rattle.std.specs.Int.Count.{count_leading_zeros};
 ghost use Rattle.a64_decode.specs.Lawful.{width_of, is_long_reversal};
 ghost use Rattle.a64_alu.specs.Reversals.{each, without_sign as without_sign_of, one_source as one_source_of};
 
-use crate::number::{inverted, low, width};
-use a64_decode::OneSourceKind;
+use crate::number::inverted;
+use a64_decode::{OneSourceKind, low, width};
 
 /// The bits or the bytes of elements in the opposite order, the zeros above the highest one, and the bits below the
 /// highest bit that are like it, down to the first that isn't.
@@ -35,7 +35,7 @@ fn reversed(wide: bool, value: u64) -> u64
     if wide {
         value.reverse_bits()
     } else {
-        (value as u32).reverse_bits() as u64
+        u64::from((value as u32).reverse_bits())
     }
 }
 
@@ -63,7 +63,7 @@ fn swapped_half_word(value: u64) -> u64
     ensures value { result ≡ swap_bytes w16 (value % 2 ^ 16) }
     ensures bound { result < 2 ^ 16 }
 {
-    (low(value, 16) as u16).swap_bytes() as u64
+    u64::from((low(value, 16) as u16).swap_bytes())
 }
 
 /// The bytes of each word in the opposite order.
@@ -83,7 +83,7 @@ fn swapped_word(value: u64) -> u64
     ensures value { result ≡ swap_bytes w32 (value % 2 ^ 32) }
     ensures bound { result < 2 ^ 32 }
 {
-    (low(value, 32) as u32).swap_bytes() as u64
+    u64::from((low(value, 32) as u32).swap_bytes())
 }
 
 /// The zeros above the highest one.
@@ -96,7 +96,7 @@ fn leading_zeros(wide: bool, value: u64) -> u64
     } else {
         (value as u32).leading_zeros()
     };
-    zeros as u64
+    u64::from(zeros)
 }
 
 /// The bits below the highest bit that are like it, down to the first that isn't.

@@ -6,8 +6,8 @@ ghost use Rattle.bao_types.specs.Bitmask.{rotated as rotated_by};
 ghost use Rattle.a64_decode.specs.declared.operand.Shift.TheVariants.{Asr, Ror};
 ghost use Rattle.a64_alu.specs.Shifts.{shifted as shifted_by};
 
-use crate::number::{inverted, low};
-use a64_decode::Shift;
+use crate::number::inverted;
+use a64_decode::{Shift, low};
 
 /// A number of `width` bits, shifted by less than its width.
 pub(crate) fn shifted(width: u32, shift: Shift, value: u64, amount: u32) -> u64

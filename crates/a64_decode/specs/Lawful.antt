@@ -6,19 +6,19 @@ use Rattle.a64_decode.specs.declared.instr.Instr.{Instr}
 use Rattle.a64_decode.specs.declared.instr.Instr.TheVariants.{Address, AddSubImmediate, LogicalImmediate, MoveWide, Bitfield, Extract, Branch, BranchConditional, CompareBranch, TestBranch, BranchRegister, ExceptionReturn, Exception, Hint, Barrier, MsrImmediate, System, SystemRegister, LogicalShifted, AddSubShifted, AddSubExtended, AddSubCarry, ConditionalCompare, ConditionalSelect, ThreeSources, TwoSources, OneSource, LoadLiteral, Pair, LoadStoreUnsigned, LoadStoreIndexed, LoadStoreRegister, Undefined}
 use Rattle.a64_decode.specs.declared.operand.Reg.{Reg}
 use Rattle.a64_decode.specs.declared.operand.Shift.{Shift}
-use Rattle.a64_decode.specs.declared.operand.Shift.TheVariants.{Ror}
+use Rattle.a64_decode.specs.declared.operand.Shift.TheVariants.{Lsl, Lsr, Asr, Ror}
 use Rattle.a64_decode.specs.declared.operand.Extend.{Extend}
-use Rattle.a64_decode.specs.declared.operand.Extend.TheVariants.{Uxtw, Uxtx, Sxtw, Sxtx}
+use Rattle.a64_decode.specs.declared.operand.Extend.TheVariants.{Uxtb, Uxth, Uxtw, Uxtx, Sxtb, Sxth, Sxtw, Sxtx}
 use Rattle.a64_decode.specs.declared.operand.Operand.{Operand}
 use Rattle.a64_decode.specs.declared.operand.Operand.TheVariants as operand
 use Rattle.a64_decode.specs.declared.operand.ProductKind.{ProductKind}
-use Rattle.a64_decode.specs.declared.operand.ProductKind.TheVariants.{Madd, Msub}
+use Rattle.a64_decode.specs.declared.operand.ProductKind.TheVariants.{Madd, Msub, Smaddl, Smsubl, Smulh, Umaddl, Umsubl, Umulh}
 use Rattle.a64_decode.specs.declared.operand.OneSourceKind.{OneSourceKind}
-use Rattle.a64_decode.specs.declared.operand.OneSourceKind.TheVariants.{Rev64}
+use Rattle.a64_decode.specs.declared.operand.OneSourceKind.TheVariants.{Rbit, Rev16, Rev32, Rev64, Clz, Cls}
 use Rattle.a64_decode.specs.declared.operand.PairKind.{PairKind}
 use Rattle.a64_decode.specs.declared.operand.PairKind.TheVariants as pair
 use Rattle.a64_decode.specs.declared.operand.IndexMode.{IndexMode}
-use Rattle.a64_decode.specs.declared.operand.IndexMode.TheVariants.{Offset}
+use Rattle.a64_decode.specs.declared.operand.IndexMode.TheVariants.{Post, Offset, Pre}
 use Rattle.a64_decode.specs.declared.operand.Size.{Size}
 use Rattle.a64_decode.specs.declared.operand.Size.TheVariants as size
 use Rattle.a64_decode.specs.declared.operand.Transfer.{Transfer}
@@ -47,27 +47,40 @@ IsSysId id = (2 ≤ id.op0) × (id.op0 < 4) × (id.op1 < 8) × (id.crn < 16) × 
 
 -- an addition has no rotated operand
 abbrev pub is_rotation : Shift → Bool
+is_rotation Lsl = false
+is_rotation Lsr = false
+is_rotation Asr = false
 is_rotation Ror = true
-is_rotation _ = false
 
 -- the products of both forms
 abbrev pub is_of_both_forms : ProductKind → Bool
 is_of_both_forms Madd = true
 is_of_both_forms Msub = true
-is_of_both_forms _ = false
+is_of_both_forms Smaddl = false
+is_of_both_forms Smsubl = false
+is_of_both_forms Smulh = false
+is_of_both_forms Umaddl = false
+is_of_both_forms Umsubl = false
+is_of_both_forms Umulh = false
 
 -- the reversal of eight bytes
 abbrev pub is_long_reversal : OneSourceKind → Bool
+is_long_reversal Rbit = false
+is_long_reversal Rev16 = false
+is_long_reversal Rev32 = false
 is_long_reversal Rev64 = true
-is_long_reversal _ = false
+is_long_reversal Clz = false
+is_long_reversal Cls = false
 
 abbrev pub writes_back : IndexMode → Bool
+writes_back Post = true
 writes_back Offset = false
-writes_back _ = true
+writes_back Pre = true
 
 abbrev pub is_signed_pair : PairKind → Bool
+is_signed_pair pair.Word = false
 is_signed_pair pair.SignedWord = true
-is_signed_pair _ = false
+is_signed_pair pair.Double = false
 
 -- a signed load to 32 bits of a word or a double word
 abbrev pub has_no_transfer : Size → Transfer → Bool
@@ -82,11 +95,14 @@ is_prefetch _ _ = false
 
 -- the extensions of an offset
 abbrev pub extends_an_offset : Extend → Bool
+extends_an_offset Uxtb = false
+extends_an_offset Uxth = false
 extends_an_offset Uxtw = true
 extends_an_offset Uxtx = true
+extends_an_offset Sxtb = false
+extends_an_offset Sxth = false
 extends_an_offset Sxtw = true
 extends_an_offset Sxtx = true
-extends_an_offset _ = false
 
 -- a base that is written and transferred at once, where it isn't SP
 abbrev pub is_overwritten : IndexMode → Reg → Reg → Bool

@@ -2,3 +2,4 @@ pub mod Pattern
 pub mod Operands
 pub mod Table
 pub mod Lawful
+pub mod Access

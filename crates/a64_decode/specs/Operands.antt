@@ -1,5 +1,5 @@
 -- What the fields of a word stand for, by their encodings.
-use Rattle.std.specs.Prelude.{ℕ, ◌+◌, ◌-◌, ◌^◌, Bool, ◌==◌, nat_lt, if◌then◌else◌}
+use Rattle.std.specs.Prelude.{ℕ, ◌+◌, ◌-◌, ◌%◌, ◌^◌, Bool, ◌==◌, nat_lt, if◌then◌else◌}
 use Rattle.a64_decode.specs.declared.operand.Reg.{Reg}
 use Rattle.a64_decode.specs.declared.operand.Condition.{Condition}
 use Rattle.a64_decode.specs.declared.operand.Condition.TheVariants as condition
@@ -52,6 +52,23 @@ reg number = record { 0 = number }
 -- a number of so many bits, sign-extended to 64 bits, in two's complement
 abbrev pub sign_extend : ℕ → ℕ → ℕ
 sign_extend width value = if nat_lt value (2 ^ (width - 1)) then value else value + (2 ^ 64 - 2 ^ width)
+
+-- the lowest 8, 16, 32 or 64 bits, with zeros or with copies of the highest of them above
+abbrev pub extended : Extend → ℕ → ℕ
+extended Uxtb value = value % 2 ^ 8
+extended Uxth value = value % 2 ^ 16
+extended Uxtw value = value % 2 ^ 32
+extended Uxtx value = value
+extended Sxtb value = sign_extend 8 (value % 2 ^ 8)
+extended Sxth value = sign_extend 16 (value % 2 ^ 16)
+extended Sxtw value = sign_extend 32 (value % 2 ^ 32)
+extended Sxtx value = value
+
+-- what a register is after a load of so many bits: with zeros above, or with their sign in a register of 64 or 32 bits
+abbrev pub loaded : Bool → Bool → ℕ → ℕ → ℕ
+loaded signed wide width element =
+    if signed then if wide then sign_extend width element else sign_extend width element % 2 ^ 32
+    else element
 
 abbrev pub condition_of : ℕ → Condition
 condition_of cond =

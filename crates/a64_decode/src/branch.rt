@@ -6,7 +6,8 @@ ghost use Rattle.a64_decode.specs.Pattern.{reading_of, first_reading};
 ghost use Rattle.a64_decode.specs.Table.{branch_row, branch_conditional_row, compare_branch_row, test_branch_row, branch_register_row, branch_rows};
 ghost use Rattle.a64_decode.specs.Lawful.{IsLawful};
 
-use crate::field::{condition, flag, reg, sign_extend, small};
+use crate::field::{condition, flag, reg, small};
+use crate::number::sign_extend;
 use crate::{BranchKind, Instr, system};
 use bao_types::field;
 
@@ -39,7 +40,7 @@ fn branch(word: u32) -> Instr
 {
     Instr::Branch {
         link: flag(word, 31),
-        offset: sign_extend(field(word, 25, 0), 1 << 25),
+        offset: sign_extend(26, u64::from(field(word, 25, 0))),
     }
 }
 
@@ -48,7 +49,7 @@ fn branch_conditional(word: u32) -> Instr
     ensures lawful { IsLawful result }
 {
     Instr::BranchConditional {
-        offset: sign_extend(field(word, 23, 5), 1 << 18),
+        offset: sign_extend(19, u64::from(field(word, 23, 5))),
         condition: condition(field(word, 3, 0)),
     }
 }
@@ -60,7 +61,7 @@ fn compare_branch(word: u32) -> Instr
     Instr::CompareBranch {
         wide: flag(word, 31),
         nonzero: flag(word, 24),
-        offset: sign_extend(field(word, 23, 5), 1 << 18),
+        offset: sign_extend(19, u64::from(field(word, 23, 5))),
         rt: reg(word, 0),
     }
 }
@@ -72,7 +73,7 @@ fn test_branch(word: u32) -> Instr
     Instr::TestBranch {
         bit: small(word, 31, 31) * 32 + small(word, 23, 19),
         nonzero: flag(word, 24),
-        offset: sign_extend(field(word, 18, 5), 1 << 13),
+        offset: sign_extend(14, u64::from(field(word, 18, 5))),
         rt: reg(word, 0),
     }
 }

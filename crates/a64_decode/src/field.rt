@@ -1,5 +1,5 @@
 //! The fields of a word, as what they stand for.
-ghost use Rattle.std.specs.Prelude.{◌≡◌, ◌+◌, ◌-◌, ◌*◌, ◌^◌, ◌<◌, ◌≤◌, ◌⊎◌, nat_lt, if◌then◌else◌};
+ghost use Rattle.std.specs.Prelude.{◌≡◌, ◌+◌, ◌<◌, ◌≤◌};
 ghost use Rattle.bao_types.specs.Bits.{field};
 ghost use Rattle.a64_decode.specs.Operands.{flag as flag_of, reg as reg_of, condition_of, shift_of, extend_of, logical_of, size_of, transfer_of};
 
@@ -34,21 +34,6 @@ pub(crate) fn reg(word: u32, low: u32) -> Reg
     ensures bound { result.0 < 32 }
 {
     Reg(small(word, low + 4, low))
-}
-
-/// A number that is sign-extended to 64 bits; `sign` is the weight of its highest bit.
-#[inline]
-pub(crate) fn sign_extend(value: u32, sign: u32) -> u64
-    requires bound { value < 2 * sign }
-    requires room { sign ≤ 2 ^ 30 }
-    ensures value { result ≡ (if nat_lt value sign then value else value + (2 ^ 64 - 2 * sign)) }
-    ensures signed { (result < sign) ⊎ ((2 ^ 64 - sign ≤ result) × (result < 2 ^ 64)) }
-{
-    if value < sign {
-        value as u64
-    } else {
-        value as u64 + (u64::MAX - 2 * sign as u64 + 1)
-    }
 }
 
 /// The condition of four bits.

@@ -6,7 +6,8 @@ ghost use Rattle.a64_decode.specs.Pattern.{reading_of, first_reading};
 ghost use Rattle.a64_decode.specs.Table.{address_row, add_sub_immediate_row, logical_immediate_row, move_wide_row, bitfield_row, extract_row, table};
 ghost use Rattle.a64_decode.specs.Lawful.{IsLawful};
 
-use crate::field::{flag, logical, reg, sign_extend, small};
+use crate::field::{flag, logical, reg, small};
+use crate::number::sign_extend;
 use crate::{BitfieldKind, Instr, MoveKind, branch};
 use bao_types::{bitmask, field};
 
@@ -38,7 +39,7 @@ fn address(word: u32) -> Instr
 {
     Instr::Address {
         page: flag(word, 31),
-        offset: sign_extend(field(word, 23, 5) * 4 + field(word, 30, 29), 1 << 20),
+        offset: sign_extend(21, u64::from(field(word, 23, 5) * 4 + field(word, 30, 29))),
         rd: reg(word, 0),
     }
 }

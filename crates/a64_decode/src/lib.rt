@@ -4,7 +4,10 @@
 //! an instruction does is said by the crates above.
 #![tactic(auto)]
 
+pub use access::{MemAccess, access_of};
 pub use instr::Instr;
+pub use load_store::is_prefetch;
+pub use number::{extended, loaded, low, sign_extend, width};
 pub use operand::{
     BarrierKind, BitfieldKind, BranchKind, Condition, ExceptionKind, Extend, IndexMode,
     LiteralKind, LogicalKind, MoveKind, OneSourceKind, Operand, PairKind, ProductKind, PstateField,
@@ -12,11 +15,13 @@ pub use operand::{
 };
 pub use table::{decode, words_are_distinct};
 
+mod access;
 mod branch;
 mod field;
 mod immediate;
 mod instr;
 mod load_store;
+mod number;
 mod operand;
 mod register;
 mod source;

@@ -6,7 +6,8 @@ ghost use Rattle.a64_decode.specs.Pattern.{reading_of, first_reading};
 ghost use Rattle.a64_decode.specs.Table.{load_literal_row, pair_row, load_store_unsigned_row, load_store_indexed_row, load_store_register_row, load_store_rows};
 ghost use Rattle.a64_decode.specs.Lawful.{IsLawful, is_overwritten as is_overwritten_by, has_no_transfer as lacks_transfer, is_prefetch as prefetches};
 
-use crate::field::{flag, reg, sign_extend, size, transfer};
+use crate::field::{flag, reg, size, transfer};
+use crate::number::sign_extend;
 use crate::{Extend, IndexMode, Instr, LiteralKind, PairKind, Reg, Size, Transfer};
 use bao_types::field;
 
@@ -45,7 +46,7 @@ fn load_literal(word: u32) -> Instr
     };
     Instr::LoadLiteral {
         kind,
-        offset: sign_extend(field(word, 23, 5), 1 << 18),
+        offset: sign_extend(19, u64::from(field(word, 23, 5))),
         rt: reg(word, 0),
     }
 }
@@ -75,7 +76,7 @@ fn pair(word: u32) -> Instr
         kind,
         mode,
         load,
-        offset: sign_extend(field(word, 21, 15), 1 << 6),
+        offset: sign_extend(7, u64::from(field(word, 21, 15))),
         rt2,
         rn,
         rt,
@@ -122,7 +123,7 @@ fn load_store_indexed(word: u32) -> Instr
     Instr::LoadStoreIndexed {
         size,
         transfer,
-        offset: sign_extend(field(word, 20, 12), 1 << 8),
+        offset: sign_extend(9, u64::from(field(word, 20, 12))),
         mode,
         rn,
         rt,
@@ -170,8 +171,8 @@ fn has_no_transfer(size: Size, transfer: Transfer) -> bool
     transfer == Transfer::LoadSignedWord && (size == Size::Word || size == Size::Double)
 }
 
-/// Whether the word asks for a signed load of a double word, which is a prefetch.
-fn is_prefetch(size: Size, transfer: Transfer) -> bool
+/// Whether a load or store of one register is a signed load of a double word, which is a prefetch and does nothing.
+pub fn is_prefetch(size: Size, transfer: Transfer) -> bool
     ensures { result ≡ prefetches size transfer }
 {
     size == Size::Double && transfer == Transfer::LoadSigned

@@ -1,15 +1,20 @@
 use crate::{
     BarrierKind, BitfieldKind, BranchKind, Condition, ExceptionKind, Extend, IndexMode, Instr,
     LiteralKind, LogicalKind, MoveKind, OneSourceKind, Operand, PairKind, ProductKind, PstateField,
-    Reg, SelectKind, Shift, Size, Transfer, TwoSourceKind, decode,
+    Reg, SelectKind, Shift, Size, Transfer, TwoSourceKind, access_of, decode, extended, loaded,
+    low, sign_extend, width,
 };
 use bao_types::SysId;
+use std::process::Abort;
+
+/// What it shows, a word, and its instruction.
+type Row = (&'static str, u32, Instr);
 
 /// An offset of -1.
 const MINUS_1: u64 = u64::MAX;
 
 #[rattlefmt::skip]
-const IMMEDIATES_AND_BRANCHES: [(&str, u32, Instr); 53] = [
+static IMMEDIATES_AND_BRANCHES: [Row; 53] = [
     // shows                                         word         instruction
     // address
     ("adr x1, #5",                                  0x3000_0021, Instr::Address { page: false, offset: 5, rd: Reg(1) }),
@@ -79,13 +84,11 @@ const IMMEDIATES_AND_BRANCHES: [(&str, u32, Instr); 53] = [
 
 #[test]
 fn immediates_and_branches(rt: HostRuntime) {
-    for (shows, word, instr) in IMMEDIATES_AND_BRANCHES {
-        assert_eq!(rt; decode(word), instr, "{shows}");
-    }
+    check_rows(&rt, IMMEDIATES_AND_BRANCHES.as_slice());
 }
 
 #[rattlefmt::skip]
-const SYSTEM_WORDS: [(&str, u32, Instr); 38] = [
+static SYSTEM_WORDS: [Row; 38] = [
     // shows                                         word         instruction
     // exception return
     ("eret",                                        0xD69F_03E0, Instr::ExceptionReturn),
@@ -136,13 +139,11 @@ const SYSTEM_WORDS: [(&str, u32, Instr); 38] = [
 
 #[test]
 fn system_words(rt: HostRuntime) {
-    for (shows, word, instr) in SYSTEM_WORDS {
-        assert_eq!(rt; decode(word), instr, "{shows}");
-    }
+    check_rows(&rt, SYSTEM_WORDS.as_slice());
 }
 
 #[rattlefmt::skip]
-const REGISTERS: [(&str, u32, Instr); 63] = [
+static REGISTERS: [Row; 63] = [
     // shows                                         word         instruction
     // logical shifted
     ("and x0, x1, x2, ror #63",                     0x8AC2_FC20, Instr::LogicalShifted { wide: true, kind: LogicalKind::And, shift: Shift::Ror, invert: false, rm: Reg(2), amount: 63, rn: Reg(1), rd: Reg(0) }),
@@ -220,13 +221,11 @@ const REGISTERS: [(&str, u32, Instr); 63] = [
 
 #[test]
 fn registers(rt: HostRuntime) {
-    for (shows, word, instr) in REGISTERS {
-        assert_eq!(rt; decode(word), instr, "{shows}");
-    }
+    check_rows(&rt, REGISTERS.as_slice());
 }
 
 #[rattlefmt::skip]
-const LOADS_AND_STORES: [(&str, u32, Instr); 48] = [
+static LOADS_AND_STORES: [Row; 48] = [
     // shows                                         word         instruction
     // load literal
     ("ldr w0, #4",                                  0x1800_0020, Instr::LoadLiteral { kind: LiteralKind::Word, offset: 1, rt: Reg(0) }),
@@ -286,9 +285,18 @@ const LOADS_AND_STORES: [(&str, u32, Instr); 48] = [
 
 #[test]
 fn loads_and_stores(rt: HostRuntime) {
-    for (shows, word, instr) in LOADS_AND_STORES {
-        assert_eq!(rt; decode(word), instr, "{shows}");
+    check_rows(&rt, LOADS_AND_STORES.as_slice());
+}
+
+fn check_rows(rt: &impl Abort, rows: &[Row]) {
+    for row in rows {
+        check_row(rt, row);
     }
+}
+
+fn check_row(rt: &impl Abort, row: &Row) {
+    let (shows, word, instr) = *row;
+    assert_eq!(rt; decode(word), instr, "{shows}");
 }
 
 /// Calls on 2^16 words that are spread evenly: each returns, and most words of the table's groups are instructions.
@@ -301,4 +309,85 @@ fn words_all_over(rt: HostRuntime) {
         }
     }
     assert!(rt; 0 < defined && defined < 0x1_0000);
+}
+
+/// What it shows, a load's or store's word, and what the word says of the access: the bytes of an element, store, signed,
+/// a register of 64 bits, the register, and whether a syndrome describes it. By "ISS encoding for an exception from a
+/// Data Abort" of ARM DDI 0487.
+type AccessRow = (&'static str, u32, Option<(u32, bool, bool, bool, u8, bool)>);
+
+#[rattlefmt::skip]
+static ACCESSES: [AccessRow; 19] = [
+    // shows                            word         bytes store  signed wide   Rt described
+    ("ldr w0, #4",                     0x1800_0020, Some((4, false, false, false, 0, true))),
+    ("ldr x1, #-4",                    0x58FF_FFE1, Some((8, false, false, true,  1, true))),
+    ("ldrsw x2, #1048572",             0x987F_FFE2, Some((4, false, true,  true,  2, true))),
+    ("prfm pldl1keep, #0",             0xD800_0000, None),
+    ("ldp w0, w1, [x2], #-256",        0x28E0_0440, Some((4, false, false, false, 0, false))),
+    ("stp x3, x4, [sp, #504]",         0xA91F_93E3, Some((8, true,  false, true,  3, false))),
+    ("ldpsw x5, x6, [x7, #4]",         0x6940_98E5, Some((4, false, true,  true,  5, false))),
+    ("strb w0, [x1, #4095]",           0x393F_FC20, Some((1, true,  false, false, 0, true))),
+    ("ldr x2, [sp, #8]",               0xF940_07E2, Some((8, false, false, true,  2, true))),
+    ("ldrsh x3, [x4, #2]",             0x7980_0483, Some((2, false, true,  true,  3, true))),
+    ("ldrsb w5, [x6]",                 0x39C0_00C5, Some((1, false, true,  false, 5, true))),
+    ("prfm pldl1keep, [x0]",           0xF980_0000, None),
+    ("ldurb w0, [x1, #-1]",            0x385F_F020, Some((1, false, false, false, 0, true))),
+    ("str x2, [sp, #-16]!",            0xF81F_0FE2, Some((8, true,  false, true,  2, false))),
+    ("ldrsw x3, [x4], #255",           0xB88F_F483, Some((4, false, true,  true,  3, false))),
+    ("str xzr, [sp], #8",              0xF800_87FF, Some((8, true,  false, true,  31, false))),
+    ("strh w3, [sp, w4, uxtw #1]",     0x7824_5BE3, Some((2, true,  false, false, 3, true))),
+    ("ldrsh w8, [x9, x10, sxtx #1]",   0x78EA_F928, Some((2, false, true,  false, 8, true))),
+    ("add x0, x1, #1",                 0x9100_0420, None),
+];
+
+#[test]
+fn accesses(rt: HostRuntime) {
+    for row in ACCESSES.as_slice() {
+        check_access(&rt, row);
+    }
+}
+
+fn check_access(rt: &impl Abort, row: &AccessRow) {
+    let (shows, word, expected) = *row;
+    let seen = access_of(&decode(word)).map(|access| {
+        (
+            access.size.bytes(),
+            access.store,
+            access.signed,
+            access.wide,
+            access.rt.0,
+            access.described,
+        )
+    });
+    assert_eq!(rt; seen, expected, "{shows}");
+}
+
+/// By "SignExtend" and "ExtendReg" of ARM DDI 0487.
+#[test]
+fn numbers(rt: HostRuntime) {
+    let seen = [
+        u64::from(width(true)),
+        u64::from(width(false)),
+        low(0xFFFF_FFFF_FFFF_FF81, 8),
+        sign_extend(8, 0x81),
+        extended(Extend::Sxth, 0x1_8000),
+        extended(Extend::Uxtw, 0x1_8000_0000),
+        loaded(true, true, 16, 0x8000),
+        loaded(true, false, 16, 0x8000),
+        loaded(false, true, 16, 0x8000),
+    ];
+    assert_eq!(rt;
+        seen,
+        [
+            64,
+            32,
+            0x81,
+            0xFFFF_FFFF_FFFF_FF81,
+            0xFFFF_FFFF_FFFF_8000,
+            0x8000_0000,
+            0xFFFF_FFFF_FFFF_8000,
+            0xFFFF_8000,
+            0x8000
+        ]
+    );
 }

@@ -1,31 +1,40 @@
 -- What an instruction asks of the world: nothing, a load or a store. What it does to the core once it has that is in
 -- Finish.
 use Rattle.std.specs.Prelude.{ℕ, ◌+◌, ◌*◌, ◌^◌, Option, Some, None, Bool, true, false, IsTrue, IsFalse, if◌then◌else◌}
+use Rattle.bao_types.specs.Bytes.{IsWidth}
 use Rattle.a64_state.specs.Core.{CoreData}
 use Rattle.a64_decode.specs.declared.instr.Instr.{Instr}
-use Rattle.a64_decode.specs.declared.instr.Instr.TheVariants.{ExceptionReturn, Exception, MsrImmediate, System, SystemRegister, Pair, LoadStoreUnsigned, LoadStoreIndexed, LoadStoreRegister, Undefined}
+use Rattle.a64_decode.specs.declared.instr.Instr.TheVariants.{Branch, BranchConditional, CompareBranch, TestBranch, BranchRegister, Hint, Barrier, LoadLiteral, Pair, LoadStoreUnsigned, LoadStoreIndexed, LoadStoreRegister}
+use Rattle.a64_alu.specs.Computed.{is_data_processing}
 use Rattle.a64_alu.specs.Results.{low_x}
 use Rattle.a64_address.specs.declared.shape.MemShape.{MemShape}
-use Rattle.a64_address.specs.Shape.{memory_shape, IsWidth, IsCount}
+use Rattle.a64_address.specs.Shape.{memory_shape, IsCount}
 use Rattle.a64_execute.specs.declared.need.Need.{Need}
 use Rattle.a64_execute.specs.declared.need.Need.TheVariants as need
 
--- The rows that are built: all but those that take or return from an exception and those of the system registers.
+-- The rows that are built: branches, hints and barriers, loads and stores, and data processing. All others aren't, the
+-- exceptions, the returns from them, the system registers and the undefined words among them.
 abbrev pub is_built : Instr → Bool
-is_built ExceptionReturn = false
-is_built (Exception kind imm16) = false
-is_built (MsrImmediate part crm) = false
-is_built (System op1 crn crm op2 rt) = false
-is_built (SystemRegister read id rt) = false
-is_built Undefined = false
-is_built _ = true
+is_built (Branch link offset) = true
+is_built (BranchConditional offset condition) = true
+is_built (CompareBranch wide nonzero offset rt) = true
+is_built (TestBranch bit nonzero offset rt) = true
+is_built (BranchRegister kind rn) = true
+is_built (Hint crm op2) = true
+is_built (Barrier crm kind) = true
+is_built (LoadLiteral kind offset rt) = true
+is_built (Pair kind mode load offset rt2 rn rt) = true
+is_built (LoadStoreUnsigned size transfer imm12 rn rt) = true
+is_built (LoadStoreIndexed size transfer offset mode rn rt) = true
+is_built (LoadStoreRegister size transfer rm extend scaled rn rt) = true
+is_built instr = is_data_processing instr
 
 -- the bytes of an access
 abbrev pub bytes_of : MemShape → ℕ
 bytes_of shape = shape.width * shape.count
 
 -- What is stored, whose elements have so many bits: the lowest bits of Rt, and of a pair's Rt2 behind them in memory.
--- The value is the bytes in address order as one little-endian number.
+-- The value is the bytes in address order as one little-endian number. No other row stores.
 abbrev pub stored_value : CoreData → Instr → ℕ → ℕ
 stored_value core (Pair kind mode load offset rt2 rn rt) bits = low_x core bits rt + 2 ^ bits * low_x core bits rt2
 stored_value core (LoadStoreUnsigned size transfer imm12 rn rt) bits = low_x core bits rt
@@ -45,8 +54,17 @@ wanted core instr = need_of core instr (memory_shape core instr)
 
 -- whether what is asked lets an instruction be completed
 abbrev pub can_complete : Need → Bool
+can_complete need.Done = true
+can_complete (need.Load shape) = true
+can_complete (need.Store shape value) = true
 can_complete need.Unbuilt = false
-can_complete _ = true
+
+-- the access that is asked for
+abbrev pub access_asked : Need → Option MemShape
+access_asked need.Done = None
+access_asked (need.Load shape) = Some shape
+access_asked (need.Store shape value) = Some shape
+access_asked need.Unbuilt = None
 
 -- an access of one or two elements of 1, 2, 4 or 8 bytes
 pub record IsAccess (shape : MemShape) : Type 0 where

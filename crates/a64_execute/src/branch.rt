@@ -4,8 +4,8 @@ ghost use Rattle.std.specs.Prelude.{◌≡◌, ◌/◌, ◌%◌, ◌^◌, ◌<�
 ghost use Rattle.a64_decode.specs.Lawful.{IsLawful};
 ghost use Rattle.a64_execute.specs.Branch.{advanced, branched, target_of, with_link, at_target_if};
 
-use a64_alu::holds;
-use a64_decode::{BranchKind, Instr};
+use a64_alu::{holds, low_x};
+use a64_decode::{BranchKind, Instr, width};
 use a64_state::Core;
 
 /// PC goes to the next instruction.
@@ -15,7 +15,8 @@ pub(crate) fn advance(core: &mut Core)
     core.pc = core.pc.wrapping_add(4);
 }
 
-/// Carries out a branch; any other instruction only goes on to the next one.
+/// Carries out a branch, or a hint, a barrier or a prefetch, which only go on to the next instruction. No other row comes
+/// here.
 #[tactic(auto, unfolding(crate::specs::Branch::branched))]
 pub(crate) fn branch(core: &mut Core, instr: &Instr)
     requires { IsLawful instr.now }
@@ -35,9 +36,8 @@ pub(crate) fn branch(core: &mut Core, instr: &Instr)
             offset,
             rt,
         } => {
-            let value = core.read_x(rt.0);
-            let value = if wide { value } else { value % (1 << 32) };
-            branch_if(core, (value == 0) != nonzero, offset);
+            let is_zero = low_x(core, width(wide), rt) == 0;
+            branch_if(core, is_zero != nonzero, offset);
         }
         Instr::TestBranch {
             bit,
@@ -52,7 +52,13 @@ pub(crate) fn branch(core: &mut Core, instr: &Instr)
             let target = core.read_x(rn.0);
             jump(core, kind == BranchKind::Blr, target);
         }
-        _ => advance(core),
+        Instr::Hint { .. }
+        | Instr::Barrier { .. }
+        | Instr::LoadLiteral { .. }
+        | Instr::LoadStoreUnsigned { .. }
+        | Instr::LoadStoreIndexed { .. }
+        | Instr::LoadStoreRegister { .. } => advance(core),
+        _ => {}
     }
 }
 

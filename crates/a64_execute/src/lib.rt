@@ -5,7 +5,7 @@
 //! built yet.
 #![tactic(auto)]
 
-pub use completion::complete;
+pub use completion::{complete, complete_access};
 pub use need::{Need, want};
 
 mod branch;

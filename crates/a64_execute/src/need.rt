@@ -1,10 +1,11 @@
-ghost use Rattle.std.specs.Prelude.{◌≡◌, ◌+◌, ◌*◌, ◌%◌, ◌<◌, ◌^◌};
+ghost use Rattle.std.specs.Prelude.{◌≡◌, ◌+◌, ◌*◌, ◌<◌, ◌^◌};
+ghost use Rattle.bao_types.specs.Bytes.{IsWidth};
 ghost use Rattle.a64_decode.specs.Lawful.{IsLawful, IsReg};
-ghost use Rattle.a64_address.specs.Shape.{IsWidth};
 ghost use Rattle.a64_alu.specs.Results.{low_x as low_x_of};
 ghost use Rattle.a64_execute.specs.Want.{is_built as is_built_row, wanted, stored_value as stored_value_of, can_complete, IsNeed};
 
 use a64_address::{MemShape, shape_of};
+use a64_alu::{is_alu, low_x};
 use a64_decode::{Instr, Reg};
 use a64_state::Core;
 
@@ -46,15 +47,22 @@ pub fn want(core: &Core, instr: &Instr) -> Need
 fn is_built(instr: &Instr) -> bool
     ensures { result ≡ is_built_row instr.now }
 {
-    !matches!(
-        instr,
-        Instr::ExceptionReturn
-            | Instr::Exception { .. }
-            | Instr::MsrImmediate { .. }
-            | Instr::System { .. }
-            | Instr::SystemRegister { .. }
-            | Instr::Undefined
-    )
+    is_alu(instr)
+        || matches!(
+            instr,
+            Instr::Branch { .. }
+                | Instr::BranchConditional { .. }
+                | Instr::CompareBranch { .. }
+                | Instr::TestBranch { .. }
+                | Instr::BranchRegister { .. }
+                | Instr::Hint { .. }
+                | Instr::Barrier { .. }
+                | Instr::LoadLiteral { .. }
+                | Instr::Pair { .. }
+                | Instr::LoadStoreUnsigned { .. }
+                | Instr::LoadStoreIndexed { .. }
+                | Instr::LoadStoreRegister { .. }
+        )
 }
 
 /// What a store writes, as elements of `width` bytes.
@@ -94,5 +102,5 @@ fn low(core: &Core, width: u32, r: Reg) -> u128
     ensures value { result ≡ low_x_of core.now (8 * width) r }
     ensures bound { result < 2 ^ (8 * width) }
 {
-    u128::from(core.read_x(r.0)) % unit(width)
+    u128::from(low_x(core, 8 * width, r))
 }

@@ -1,6 +1,6 @@
-use crate::{Need, complete, want};
+use crate::{Need, complete, complete_access, want};
 use a64_decode::decode;
-use a64_state::{Core, pstate};
+use a64_state::Core;
 use std::process::Abort;
 
 /// A load or a store: its instruction and word, the address, the bytes of an element, the elements, what is loaded or
@@ -41,7 +41,7 @@ const PC: u64 = 0x4000;
 const END: u64 = 0xFFFF_FFFF_FFFF_FFFC;
 
 #[rattlefmt::skip]
-const OFFSETS: [Access; 30] = [
+static OFFSETS: [Access; 30] = [
     // shows                   word         at        width  count  loaded  changes
     ("ldrb w0, [x1, #1]",      0x3940_0420, 0x1_0001, 1,     1,     HIGH,   &[(0, 0xF0)]),
     ("ldrsb x0, [x1, #2]",     0x3980_0820, 0x1_0002, 1,     1,     HIGH,   &[(0, 0xFFFF_FFFF_FFFF_FFF0)]),
@@ -76,7 +76,7 @@ const OFFSETS: [Access; 30] = [
 ];
 
 #[rattlefmt::skip]
-const INDEXED: [Access; 25] = [
+static INDEXED: [Access; 25] = [
     // shows                 word         at        width  count  loaded  changes
     ("ldrb w0, [x1], #255",  0x384F_F420, 0x1_0000, 1,     1,     HIGH,   &[(0, 0xF0), (1, 0x1_00FF)]),
     ("ldrsb x0, [x1], #-1",  0x389F_F420, 0x1_0000, 1,     1,     HIGH,   &[(0, 0xFFFF_FFFF_FFFF_FFF0), (1, 0xFFFF)]),
@@ -106,7 +106,7 @@ const INDEXED: [Access; 25] = [
 ];
 
 #[rattlefmt::skip]
-const OTHER_BASES: [Access; 22] = [
+static OTHER_BASES: [Access; 22] = [
     // shows                        word         at              width  count  loaded  changes
     ("ldrb w0, [x1, w2, uxtw]",     0x3862_4820, 0x1_0000_FFF0,  1,     1,     HIGH,   &[(0, 0xF0)]),
     ("ldrsb x0, [x1, w2, sxtw]",    0x38A2_C820, 0xFFF0,         1,     1,     HIGH,   &[(0, 0xFFFF_FFFF_FFFF_FFF0)]),
@@ -133,7 +133,7 @@ const OTHER_BASES: [Access; 22] = [
 ];
 
 #[rattlefmt::skip]
-const PAIRS: [Access; 17] = [
+static PAIRS: [Access; 17] = [
     // shows                      word         at        width  count  loaded  changes
     ("ldp w0, w5, [x1, #252]",    0x295F_9420, 0x1_00FC, 4,     2,     HIGH,   &[(0, 0xC3D2_E1F0), (5, 0x8796_A5B4)]),
     ("ldpsw x0, x5, [x1, #-256]", 0x6960_1420, 0xFF00,   4,     2,     HIGH,   &[(0, 0xFFFF_FFFF_C3D2_E1F0), (5, 0xFFFF_FFFF_8796_A5B4)]),
@@ -155,7 +155,7 @@ const PAIRS: [Access; 17] = [
 ];
 
 #[rattlefmt::skip]
-const STORES: [Access; 46] = [
+static STORES: [Access; 46] = [
     // shows                       word         at              width  count  stored                                     changes
     ("strb w0, [x1, #4095]",       0x393F_FC20, 0x1_0FFF,       1,     1,     0xEF,                                      &[]),
     ("strh w0, [x1, #8190]",       0x793F_FC20, 0x1_1FFE,       2,     1,     0xCDEF,                                    &[]),
@@ -206,7 +206,7 @@ const STORES: [Access; 46] = [
 ];
 
 #[rattlefmt::skip]
-const PROCESSING: [Step; 23] = [
+static PROCESSING: [Step; 23] = [
     // shows                      word         flags  after  PC  changes
     ("add x0, x1, #1",            0x9100_0420, 0,     0,     0x4004,   &[(0, 0x1_0001)]),
     ("sub sp, sp, #16",           0xD100_43FF, 0,     0,     0x4004,   &[(31, 0x7FF0)]),
@@ -234,7 +234,7 @@ const PROCESSING: [Step; 23] = [
 ];
 
 #[rattlefmt::skip]
-const BRANCHES: [Step; 40] = [
+static BRANCHES: [Step; 40] = [
     // shows                 word         flags  after  PC               changes
     ("b #8",                 0x1400_0002, 0,     0,     0x4008,                &[]),
     ("b #-8",                0x17FF_FFFE, 0,     0,     0x3FF8,                &[]),
@@ -279,7 +279,7 @@ const BRANCHES: [Step; 40] = [
 ];
 
 #[rattlefmt::skip]
-const STEPS_AT_THE_END: [Step; 13] = [
+static STEPS_AT_THE_END: [Step; 13] = [
     // shows           word         flags  after  PC               changes
     ("nop",            0xD503_201F, 0,     0,     0x0,                   &[]),
     ("add x0, x1, #1", 0x9100_0420, 0,     0,     0x0,                   &[(0, 0x1_0001)]),
@@ -297,7 +297,7 @@ const STEPS_AT_THE_END: [Step; 13] = [
 ];
 
 #[rattlefmt::skip]
-const LOADS_AT_THE_END: [Access; 2] = [
+static LOADS_AT_THE_END: [Access; 2] = [
     // shows             word         at        width  count  loaded  changes
     ("ldr x0, #8",       0x5800_0040, 0x4,      8,     1,     HIGH,   &[(0, 0x8796_A5B4_C3D2_E1F0)]),
     ("ldr x0, [x1], #8", 0xF840_8420, 0x1_0000, 8,     1,     HIGH,   &[(0, 0x8796_A5B4_C3D2_E1F0), (1, 0x1_0008)]),
@@ -348,13 +348,15 @@ fn load_agrees(rt: &impl Abort, pc: u64, row: &Access) {
     let Need::Load { shape } = want(&core, &instr) else {
         panic!(rt; "{shows}");
     };
-    assert!(rt;
-        shape.at == at && shape.width == width && shape.count == count,
-        "{shows}"
+    complete_access(&mut core, 0, &instr, &shape, loaded);
+    let seen = (
+        shape.at,
+        shape.width,
+        shape.count,
+        shape.store,
+        core == expected,
     );
-    assert!(rt; !shape.store, "{shows}");
-    complete(&mut core, 0, &instr, loaded);
-    assert!(rt; core == expected, "{shows}");
+    assert_eq!(rt; seen, (at, width, count, false, true), "{shows}");
 }
 
 /// So does the row's store, whatever is taken as loaded.
@@ -369,14 +371,9 @@ fn store_agrees(rt: &impl Abort, pc: u64, row: &Access) {
     let Need::Store { shape, value } = want(&core, &instr) else {
         panic!(rt; "{shows}");
     };
-    assert!(rt;
-        shape.at == at && shape.width == width && shape.count == count,
-        "{shows}"
-    );
-    assert!(rt; shape.store, "{shows}");
-    assert_eq!(rt; value, stored, "{shows}");
-    complete(&mut core, 0, &instr, HIGH);
-    assert!(rt; core == expected, "{shows}");
+    complete_access(&mut core, 0, &instr, &shape, HIGH);
+    let seen = (shape.at, shape.width, shape.count, value, core == expected);
+    assert_eq!(rt; seen, (at, width, count, stored, true), "{shows}");
 }
 
 /// The row's instruction, begun at `pc`, asks for nothing, and changes what the row says alone.
@@ -387,134 +384,153 @@ fn step_agrees(rt: &impl Abort, pc: u64, row: &Step) {
     let mut expected = core;
     change(rt, &mut expected, changes);
     expected.pc = pc_after;
-    core.pstate = pstate::RESET + flags * pstate::V;
-    expected.pstate = pstate::RESET + flags_after * pstate::V;
+    core.set_flags(flags);
+    expected.set_flags(flags_after);
 
     let instr = decode(word);
-    assert_eq!(rt; want(&core, &instr), Need::Done, "{shows}");
-    complete(&mut core, 0, &instr, HIGH);
-    assert_eq!(rt; core.pc, pc_after, "{shows}");
-    assert!(rt; core == expected, "{shows}");
+    let Need::Done = want(&core, &instr) else {
+        panic!(rt; "{shows}");
+    };
+    let end = complete(&mut core, 0, &instr);
+    let seen = (core.pc, end, core == expected);
+    assert_eq!(rt; seen, (pc_after, None, true), "{shows}");
+}
+
+fn loads_agree(rt: &impl Abort, pc: u64, rows: &[Access]) {
+    for row in rows {
+        load_agrees(rt, pc, row);
+    }
+}
+
+fn stores_agree(rt: &impl Abort, pc: u64, rows: &[Access]) {
+    for row in rows {
+        store_agrees(rt, pc, row);
+    }
+}
+
+fn steps_agree(rt: &impl Abort, pc: u64, rows: &[Step]) {
+    for row in rows {
+        step_agrees(rt, pc, row);
+    }
 }
 
 #[test]
 fn loads(rt: HostRuntime) {
-    for row in &OFFSETS {
-        load_agrees(&rt, PC, row);
-    }
-    for row in &INDEXED {
-        load_agrees(&rt, PC, row);
-    }
-    for row in &OTHER_BASES {
-        load_agrees(&rt, PC, row);
-    }
-    for row in &PAIRS {
-        load_agrees(&rt, PC, row);
-    }
+    loads_agree(&rt, PC, OFFSETS.as_slice());
+    loads_agree(&rt, PC, INDEXED.as_slice());
+    loads_agree(&rt, PC, OTHER_BASES.as_slice());
+    loads_agree(&rt, PC, PAIRS.as_slice());
 }
 
 #[test]
 fn stores(rt: HostRuntime) {
-    for row in &STORES {
-        store_agrees(&rt, PC, row);
-    }
+    stores_agree(&rt, PC, STORES.as_slice());
 }
 
 #[test]
 fn data_processing_and_branches(rt: HostRuntime) {
-    for row in &PROCESSING {
-        step_agrees(&rt, PC, row);
-    }
-    for row in &BRANCHES {
-        step_agrees(&rt, PC, row);
-    }
+    steps_agree(&rt, PC, PROCESSING.as_slice());
+    steps_agree(&rt, PC, BRANCHES.as_slice());
 }
 
+/// Each bit of X0 alone is set, and alone is clear.
 #[test]
 fn every_bit_tested(rt: HostRuntime) {
-    const TBZ: u32 = 0x3600_0040; // tbz x0, #0, #8
-    const TBNZ: u32 = 0x3700_0040; // tbnz x0, #0, #8
     for bit in 0..64u32 {
         // Bit 5 of the number is the word's bit 31, the others begin at its bit 19.
         let number = bit / 32 * (1 << 31) + bit % 32 * (1 << 19);
-        for (word, x0, pc) in [
-            (TBZ + number, 1 << bit, 0x4004),
-            (TBZ + number, !(1 << bit), 0x4008),
-            (TBNZ + number, 1 << bit, 0x4008),
-            (TBNZ + number, !(1 << bit), 0x4004),
-        ] {
-            let mut core = before(PC);
-            core.write_x(0, x0);
-            let mut expected = core;
-            expected.pc = pc;
-            let instr = decode(word);
-            assert_eq!(rt; want(&core, &instr), Need::Done, "{word:08X}");
-            complete(&mut core, 0, &instr, 0);
-            assert!(rt; core == expected, "{word:08X}");
-        }
+        bit_is_tested(&rt, TBZ + number, 1 << bit, 0x4004);
+        bit_is_tested(&rt, TBZ + number, !(1 << bit), 0x4008);
+        bit_is_tested(&rt, TBNZ + number, 1 << bit, 0x4008);
+        bit_is_tested(&rt, TBNZ + number, !(1 << bit), 0x4004);
     }
+}
+
+const TBZ: u32 = 0x3600_0040; // tbz x0, #0, #8
+
+const TBNZ: u32 = 0x3700_0040; // tbnz x0, #0, #8
+
+fn bit_is_tested(rt: &impl Abort, word: u32, x0: u64, pc: u64) {
+    let mut core = before(PC);
+    core.write_x(0, x0);
+    let mut expected = core;
+    expected.pc = pc;
+    let instr = decode(word);
+    let Need::Done = want(&core, &instr) else {
+        panic!(rt; "{word:08X}");
+    };
+    let end = complete(&mut core, 0, &instr);
+    assert!(rt; end.is_none() && core == expected, "{word:08X}");
 }
 
 #[test]
 fn end_of_the_address_space(rt: HostRuntime) {
-    for row in &STEPS_AT_THE_END {
-        step_agrees(&rt, END, row);
-    }
-    for row in &LOADS_AT_THE_END {
-        load_agrees(&rt, END, row);
-    }
+    steps_agree(&rt, END, STEPS_AT_THE_END.as_slice());
+    loads_agree(&rt, END, LOADS_AT_THE_END.as_slice());
 }
 
 /// Hints, barriers and prefetches.
+#[rattlefmt::skip]
+static GOING_ON: [(&str, u32); 15] = [
+    // shows                             word
+    ("nop",                              0xD503_201F),
+    ("yield",                            0xD503_203F),
+    ("wfe",                              0xD503_205F),
+    ("wfi",                              0xD503_207F),
+    ("sev",                              0xD503_209F),
+    ("sevl",                             0xD503_20BF),
+    ("hint #127",                        0xD503_2FFF),
+    ("clrex",                            0xD503_3F5F),
+    ("dsb sy",                           0xD503_3F9F),
+    ("dmb ish",                          0xD503_3BBF),
+    ("isb",                              0xD503_3FDF),
+    ("prfm pldl1keep, #8",               0xD800_0040),
+    ("prfm pldl1keep, [x1, #8]",         0xF980_0420),
+    ("prfm pldl1keep, [sp, x2, lsl #3]", 0xF8A2_7BE0),
+    ("prfum pldl1keep, [x1, #-8]",       0xF89F_8020),
+];
+
 #[test]
 fn nothing_but_the_next_instruction(rt: HostRuntime) {
-    #[rattlefmt::skip]
-    const ROWS: [(&str, u32); 15] = [
-        // shows                             word
-        ("nop",                              0xD503_201F),
-        ("yield",                            0xD503_203F),
-        ("wfe",                              0xD503_205F),
-        ("wfi",                              0xD503_207F),
-        ("sev",                              0xD503_209F),
-        ("sevl",                             0xD503_20BF),
-        ("hint #127",                        0xD503_2FFF),
-        ("clrex",                            0xD503_3F5F),
-        ("dsb sy",                           0xD503_3F9F),
-        ("dmb ish",                          0xD503_3BBF),
-        ("isb",                              0xD503_3FDF),
-        ("prfm pldl1keep, #8",               0xD800_0040),
-        ("prfm pldl1keep, [x1, #8]",         0xF980_0420),
-        ("prfm pldl1keep, [sp, x2, lsl #3]", 0xF8A2_7BE0),
-        ("prfum pldl1keep, [x1, #-8]",       0xF89F_8020),
-    ];
-    for (shows, word) in ROWS {
-        step_agrees(&rt, PC, &(shows, word, 5, 5, 0x4004, &[]));
+    for row in GOING_ON.as_slice() {
+        goes_on(&rt, row);
     }
 }
 
+fn goes_on(rt: &impl Abort, row: &(&'static str, u32)) {
+    let (shows, word) = *row;
+    step_agrees(rt, PC, &(shows, word, 5, 5, 0x4004, &[]));
+}
+
+#[rattlefmt::skip]
+static UNBUILT: [(&str, u32); 16] = [
+    // shows               word
+    ("svc #0",             0xD400_0001),
+    ("hvc #0",             0xD400_0002),
+    ("smc #0",             0xD400_0003),
+    ("brk #0",             0xD420_0000),
+    ("eret",               0xD69F_03E0),
+    ("msr spsel, #1",      0xD500_41BF),
+    ("msr daifset, #2",    0xD503_42DF),
+    ("msr daifclr, #2",    0xD503_42FF),
+    ("dc civac, x1",       0xD50B_7E21),
+    ("ic iallu",           0xD508_751F),
+    ("msr sctlr_el1, x0",  0xD518_1000),
+    ("mrs x0, nzcv",       0xD53B_4200),
+    ("ldxr x0, [x1]",      0xC85F_7C20),
+    ("ldadd w0, w1, [x2]", 0xB820_0041),
+    ("udf #0",             0x0000_0000),
+    ("udf #65535",         0x0000_FFFF),
+];
+
 #[test]
 fn unbuilt(rt: HostRuntime) {
-    #[rattlefmt::skip]
-    const ROWS: [(&str, u32); 16] = [
-        // shows               word
-        ("svc #0",             0xD400_0001),
-        ("hvc #0",             0xD400_0002),
-        ("smc #0",             0xD400_0003),
-        ("brk #0",             0xD420_0000),
-        ("eret",               0xD69F_03E0),
-        ("msr spsel, #1",      0xD500_41BF),
-        ("msr daifset, #2",    0xD503_42DF),
-        ("msr daifclr, #2",    0xD503_42FF),
-        ("dc civac, x1",       0xD50B_7E21),
-        ("ic iallu",           0xD508_751F),
-        ("msr sctlr_el1, x0",  0xD518_1000),
-        ("mrs x0, nzcv",       0xD53B_4200),
-        ("ldxr x0, [x1]",      0xC85F_7C20),
-        ("ldadd w0, w1, [x2]", 0xB820_0041),
-        ("udf #0",             0x0000_0000),
-        ("udf #65535",         0x0000_FFFF),
-    ];
-    for (shows, word) in ROWS {
-        assert_eq!(rt; want(&before(PC), &decode(word)), Need::Unbuilt, "{shows}");
+    for row in UNBUILT.as_slice() {
+        is_unbuilt(&rt, row);
     }
+}
+
+fn is_unbuilt(rt: &impl Abort, row: &(&'static str, u32)) {
+    let (shows, word) = *row;
+    assert_eq!(rt; want(&before(PC), &decode(word)), Need::Unbuilt, "{shows}");
 }

@@ -1,14 +1,13 @@
 //! The registers that a load or a store leaves.
 
 ghost use Rattle.std.specs.Prelude.{◌≡◌, ◌*◌, ◌^◌, ◌<◌, ◌-◌, Some};
+ghost use Rattle.bao_types.specs.Bytes.{IsWidth};
 ghost use Rattle.a64_decode.specs.Lawful.{IsLawful, IsReg};
-ghost use Rattle.a64_decode.specs.Operands.{sign_extend as sign_extended};
-ghost use Rattle.a64_address.specs.Shape.{IsWidth};
-ghost use Rattle.a64_execute.specs.Transfer.{first_element, second_element, literal_value as literal_value_of, pair_value as pair_value_of, with_element, with_pair, with_back, transferred};
+ghost use Rattle.a64_execute.specs.Transfer.{first_element, second_element, with_element, with_pair, with_back, transferred};
 
 use crate::need::unit;
 use a64_address::MemShape;
-use a64_decode::{Instr, LiteralKind, PairKind, Reg, Transfer};
+use a64_decode::{Instr, LiteralKind, PairKind, Reg, Transfer, loaded};
 use a64_state::Core;
 
 /// Writes what was loaded to its registers, and the base back, where the instruction does so.
@@ -20,10 +19,10 @@ pub(crate) fn transfer(core: &mut Core, instr: &Instr, shape: &MemShape, got: u1
 {
     match *instr {
         Instr::LoadLiteral { kind, rt, .. } => {
-            core.write_x(
-                rt.0,
-                literal_value(kind, shape.width, first(got, shape.width)),
-            );
+            let signed = kind == LiteralKind::SignedWord;
+            let element = first(got, shape.width);
+            let value = loaded(signed, kind != LiteralKind::Word, 8 * shape.width, element);
+            core.write_x(rt.0, value);
         }
         Instr::Pair {
             kind,
@@ -73,46 +72,6 @@ fn second(got: u128, width: u32) -> u64
     (got / unit(width) % unit(width)) as u64
 }
 
-/// A number of `width` bytes with copies of its highest bit above, at 64 bits.
-fn sign_extend(width: u32, value: u64) -> u64
-    requires width { IsWidth width }
-    requires value { value < 2 ^ (8 * width) }
-    ensures { result ≡ sign_extended (8 * width) value }
-{
-    match width {
-        1 if value >= 1 << 7 => value + (u64::MAX - 0xFF),
-        2 if value >= 1 << 15 => value + (u64::MAX - 0xFFFF),
-        4 if value >= 1 << 31 => value + (u64::MAX - 0xFFFF_FFFF),
-        _ => value,
-    }
-}
-
-/// What a literal of `width` bytes is in its register.
-fn literal_value(kind: LiteralKind, width: u32, element: u64) -> u64
-    requires width { IsWidth width }
-    requires value { element < 2 ^ (8 * width) }
-    ensures { result ≡ literal_value_of kind (8 * width) element }
-{
-    if kind == LiteralKind::SignedWord {
-        sign_extend(width, element)
-    } else {
-        element
-    }
-}
-
-/// What an element of a pair is in its register.
-fn pair_value(kind: PairKind, width: u32, element: u64) -> u64
-    requires width { IsWidth width }
-    requires value { element < 2 ^ (8 * width) }
-    ensures { result ≡ pair_value_of kind (8 * width) element }
-{
-    if kind == PairKind::SignedWord {
-        sign_extend(width, element)
-    } else {
-        element
-    }
-}
-
 /// Writes a loaded element to a register.
 fn load(core: &mut Core, transfer: Transfer, width: u32, rt: Reg, element: u64)
     requires reg { IsReg rt }
@@ -123,10 +82,8 @@ fn load(core: &mut Core, transfer: Transfer, width: u32, rt: Reg, element: u64)
     match transfer {
         Transfer::Store => {}
         Transfer::Load => core.write_x(rt.0, element),
-        Transfer::LoadSigned => core.write_x(rt.0, sign_extend(width, element)),
-        Transfer::LoadSignedWord => {
-            core.write_x(rt.0, sign_extend(width, element) % (1 << 32));
-        }
+        Transfer::LoadSigned => core.write_x(rt.0, loaded(true, true, 8 * width, element)),
+        Transfer::LoadSignedWord => core.write_x(rt.0, loaded(true, false, 8 * width, element)),
     }
 }
 
@@ -137,8 +94,10 @@ fn load_pair(core: &mut Core, kind: PairKind, width: u32, rt: Reg, rt2: Reg, got
     requires width { IsWidth width }
     ensures { core.new ≡ with_pair kind (8 * width) rt rt2 got core.old }
 {
-    core.write_x(rt.0, pair_value(kind, width, first(got, width)));
-    core.write_x(rt2.0, pair_value(kind, width, second(got, width)));
+    let signed = kind == PairKind::SignedWord;
+    let wide = kind != PairKind::Word;
+    core.write_x(rt.0, loaded(signed, wide, 8 * width, first(got, width)));
+    core.write_x(rt2.0, loaded(signed, wide, 8 * width, second(got, width)));
 }
 
 /// Writes the base back, where it is written back. Register 31 is SP.
@@ -148,7 +107,6 @@ fn write_back(core: &mut Core, rn: Reg, back: Option<u64>)
 {
     match back {
         None => {}
-        Some(base) if rn.0 == 31 => core.write_sp(base),
-        Some(base) => core.write_x(rn.0, base),
+        Some(base) => core.write_x_or_sp(rn.0, base),
     }
 }

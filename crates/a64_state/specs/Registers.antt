@@ -1,5 +1,5 @@
 -- The registers that an instruction names, and a core after a reset.
-use Rattle.std.specs.Prelude.{ℕ, false, ◌==◌, if◌then◌else◌, slice_index, slice_set, replicate}
+use Rattle.std.specs.Prelude.{ℕ, Bool, false, ◌==◌, if◌then◌else◌, slice_index, slice_set, replicate}
 use Rattle.bao_types.specs.Bits.{field}
 use Rattle.a64_state.specs.Core.{CoreData}
 use Rattle.a64_state.specs.Pstate.{mode}
@@ -27,6 +27,18 @@ with_sp core value =
       sp0 = if mode core.pstate == 5 then core.sp0 else value;
       sp1 = if mode core.pstate == 5 then value else core.sp1;
     }
+
+-- where an instruction says that 31 is SP, and not the zero register
+abbrev pub is_sp : ℕ → Bool
+is_sp n = n == 31
+
+-- Xn, or SP for 31
+abbrev pub x_or_sp : CoreData → ℕ → ℕ
+x_or_sp core n = if is_sp n then sp_of core else x_of core n
+
+-- after a write of Xn, or of SP for 31
+abbrev pub with_x_or_sp : CoreData → ℕ → ℕ → CoreData
+with_x_or_sp core n value = if is_sp n then with_sp core value else with_x core n value
 
 -- after a reset: EL1 with its own stack pointer and all interrupts masked (0x3C5); all other registers are zero
 abbrev pub reset_core : ℕ → CoreData

@@ -5,8 +5,10 @@
 //! plain reads and writes that depend on PSTATE or on register 31.
 #![tactic(auto)]
 
+pub use mode::Mode;
 pub use registers::{Core, SysRegs};
 
+mod mode;
 pub mod pstate;
 mod registers;
 #[cfg(test)]

@@ -1,6 +1,6 @@
-ghost use Rattle.std.specs.Prelude.{◌≡◌, ◌≤◌};
+ghost use Rattle.std.specs.Prelude.{◌≡◌, ◌≤◌, ◌<◌};
 
-use crate::pstate;
+use crate::{Mode, pstate};
 use bao_types::{IfaceRegs, ListReg, Region, RegionFile, TimerRegs};
 use std::marker::Model;
 
@@ -65,7 +65,9 @@ impl Model for Core {
 }
 
 impl Core {
-    ghost use Rattle.a64_state.specs.Registers.{x_of, with_x, sp_of, with_sp, level, reset_core};
+    ghost use Rattle.a64_state.specs.Registers.{x_of, with_x, sp_of, with_sp, x_or_sp, with_x_or_sp, level, reset_core};
+    ghost use Rattle.a64_state.specs.Pstate.{mode, with_flags, with_illegal_state, with_daif};
+    ghost use Rattle.a64_state.specs.Mode.{number_of, with_mode};
 
     /// A core after a reset: EL1 with its own stack pointer, all interrupts masked, all other registers 0, and all
     /// list registers free.
@@ -148,5 +150,71 @@ impl Core {
         } else {
             self.sp0 = value;
         }
+    }
+
+    /// Xn, or SP for 31, as the base of an access and some operands are read.
+    pub fn read_x_or_sp(&self, n: u8) -> u64
+        requires { n ≤ 31 }
+        ensures { result ≡ x_or_sp self.now n }
+    {
+        if n == 31 {
+            self.read_sp()
+        } else {
+            self.read_x(n)
+        }
+    }
+
+    /// Writes Xn, or SP for 31.
+    pub fn write_x_or_sp(&mut self, n: u8, value: u64)
+        requires { n ≤ 31 }
+        ensures { self.new ≡ with_x_or_sp self.old n value }
+    {
+        if n == 31 {
+            self.write_sp(value);
+        } else {
+            self.write_x(n, value);
+        }
+    }
+
+    /// The exception level and the selected stack pointer.
+    pub fn mode(&self) -> Mode
+        ensures { number_of result ≡ mode self.now.pstate }
+    {
+        match self.pstate % pstate::MODES {
+            pstate::EL0T => Mode::El0t,
+            pstate::EL1T => Mode::El1t,
+            _ => Mode::El1h,
+        }
+    }
+
+    /// Goes to another exception level and stack pointer; all else of PSTATE stays.
+    pub fn set_mode(&mut self, to: Mode)
+        ensures { self.new ≡ record self.old { pstate = with_mode self.old.pstate to } }
+    {
+        self.pstate = self.pstate / (1 << 5) * (1 << 5) + to.number();
+    }
+
+    /// Sets N, Z, C and V to the bits of a number, N the highest; all else of PSTATE stays.
+    pub fn set_flags(&mut self, to: u32)
+        requires { to < 16 }
+        ensures { self.new ≡ record self.old { pstate = with_flags self.old.pstate to } }
+    {
+        self.pstate = to * (1 << 28) + self.pstate % (1 << 28);
+    }
+
+    /// Sets the masks D, A, I and F to the bits of a number, D the highest; all else of PSTATE stays.
+    pub fn set_daif(&mut self, to: u32)
+        requires { to < 16 }
+        ensures { self.new ≡ record self.old { pstate = with_daif self.old.pstate to } }
+    {
+        self.pstate = self.pstate / (1 << 10) * (1 << 10) + to * (1 << 6) + self.pstate % (1 << 6);
+    }
+
+    /// Sets or clears IL; all else of PSTATE stays.
+    pub fn set_illegal_state(&mut self, to: bool)
+        ensures { self.new ≡ record self.old { pstate = with_illegal_state self.old.pstate to } }
+    {
+        let above = self.pstate / (1 << 21) * (1 << 21);
+        self.pstate = above + u32::from(to) * pstate::IL + self.pstate % (1 << 20);
     }
 }

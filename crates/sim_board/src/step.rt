@@ -1,6 +1,6 @@
-ghost use Rattle.std.specs.Prelude.{◌≡◌, ◌≤◌, length, if◌then◌else◌, is_none, IsTrue};
+ghost use Rattle.std.specs.Prelude.{◌≡◌, ◌≤◌, length, if◌then◌else◌, is_none, Some};
 ghost use Rattle.a64_decode.specs.Lawful.{IsLawful};
-ghost use Rattle.a64_execute.specs.Want.{is_built, wanted, bytes_of, IsAccess};
+ghost use Rattle.a64_execute.specs.Want.{wanted, access_asked, bytes_of, IsAccess};
 ghost use Rattle.a64_execute.specs.Finish.{finished};
 ghost use Rattle.board.specs.Attempt.{attempt, effect_of, core_of, stored_of, stores_from};
 ghost use Rattle.board.specs.Machine.{written};
@@ -11,7 +11,7 @@ use crate::guard::Guard;
 use crate::memory::{number_at, store_at};
 use a64_address::MemShape;
 use a64_decode::{Instr, decode};
-use a64_execute::{Need, complete, want};
+use a64_execute::{Need, complete, complete_access, want};
 use a64_state::Core;
 use bao_types::{Access, ByteRange};
 use board::Exit;
@@ -64,14 +64,14 @@ fn execute(
         then Exit.Unbuilt else Exit.Ran) }
 {
     match want(core, instr) {
-        Need::Done => finish(core, now, instr, 0),
+        Need::Done => finish(core, now, instr),
         Need::Load { shape } => match load(bank, memory, guard, &shape) {
-            Some(got) => finish(core, now, instr, got),
+            Some(got) => finish_access(core, now, instr, &shape, got),
             None => Exit::Unbuilt,
         },
         Need::Store { shape, value } => {
             if store(bank, memory, guard, &shape, value) {
-                finish(core, now, instr, 0)
+                finish_access(core, now, instr, &shape, 0)
             } else {
                 Exit::Unbuilt
             }
@@ -80,14 +80,27 @@ fn execute(
     }
 }
 
-/// Completes an instruction that has what it asked for.
-fn finish(core: &mut Core, now: u64, instr: &Instr, got: u128) -> Exit
+/// Completes an instruction that asked for nothing. None that is built ends an interrupt.
+fn finish(core: &mut Core, now: u64, instr: &Instr) -> Exit
     requires lawful { IsLawful instr.now }
-    requires built { IsTrue (is_built instr.now) }
+    requires need { wanted core.old instr.now ≡ Need.Done }
+    ensures core { core.new ≡ finished core.old now instr.now 0 }
+    ensures exit { result ≡ Exit.Ran }
+{
+    match complete(core, now, instr) {
+        None => Exit::Ran,
+        Some(_) => unreachable!(),
+    }
+}
+
+/// Completes an instruction whose access was carried out.
+fn finish_access(core: &mut Core, now: u64, instr: &Instr, shape: &MemShape, got: u128) -> Exit
+    requires lawful { IsLawful instr.now }
+    requires need { access_asked (wanted core.old instr.now) ≡ Some shape.now }
     ensures core { core.new ≡ finished core.old now instr.now got }
     ensures exit { result ≡ Exit.Ran }
 {
-    complete(core, now, instr, got);
+    complete_access(core, now, instr, shape, got);
     Exit::Ran
 }
 
