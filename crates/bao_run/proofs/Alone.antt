@@ -1,9 +1,9 @@
 -- With one VM its view is the list of events, and its own run is the run.
 use Rattle.std.proofs.Common.{◌≡◌, ℕ, ◌-◌, Bool, true, false, List, [], ◌∷◌, ◌++◌, length, refl, sym, ap, subst, ◌∙◌}
 use Rattle.std.specs.Prelude.{Option, None, Some, if◌then◌else◌, nat_le}
-use Rattle.board.specs.Sample.{sample}
-use Rattle.board.specs.Flat.{Flat, FlatEvent, Step, Wrote, flat_step, flat_run}
-use Rattle.board.specs.Lone.{view, seen, lone}
+use Rattle.report.specs.Sample.{sample}
+use Rattle.vm_model.specs.Flat.{Flat, FlatEvent, Step, Wrote, flat_step, flat_run}
+use Rattle.vm_model.specs.Lone.{view, seen, lone}
 use Rattle.report.specs.Lines.{done_line}
 use Rattle.report.specs.Section.{report, section, sections}
 use Rattle.bao_run.specs.Schedule.{is_line, with_event, events_of, schedule_of}

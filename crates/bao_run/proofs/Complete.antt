@@ -6,8 +6,8 @@ use Rattle.outside.specs.Sink.{grown}
 use Rattle.report.specs.declared.status.Part.TheVariants as part
 use Rattle.report.specs.declared.status.Status.{Status}
 use Rattle.report.specs.declared.status.Status.TheVariants as status
-use Rattle.board.specs.Sample.{sample}
-use Rattle.board.specs.Flat.{FlatEvent, first_unbuilt}
+use Rattle.report.specs.Sample.{sample}
+use Rattle.vm_model.specs.Flat.{FlatEvent, first_unbuilt}
 use Rattle.bao_run.specs.Ruling.{Files, Refused, Accept, ruling}
 use Rattle.bao_run.specs.Input.{IfHeld}
 use Rattle.bao_run.specs.Outcome.{Call, Outcome, IsIsolated, IsAccepted, IsRuled, ForSomeInput, booted}

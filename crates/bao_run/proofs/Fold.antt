@@ -2,9 +2,10 @@
 use Rattle.std.proofs.Common.{◌≡◌, ℕ, suc, ◌+◌, ◌<◌, true, false, List, [], ◌∷◌, length, drop, get_or, map, refl, sym, ap, ◌∙◌, arith, add-one}
 use Rattle.std.specs.Prelude.{Some, if◌then◌else◌}
 use Rattle.std.proofs.Math.Seq.{drop-cons}
-use Rattle.board.specs.Sample.{sample}
+use Rattle.report.specs.Sample.{sample}
 use Rattle.board.specs.Machine.{Machine}
-use Rattle.board.specs.Flat.{Flat, On, project, flat_step, flat_run, is_entered, entered_count, is_event_unbuilt, first_unbuilt}
+use Rattle.vm_model.specs.Flat.{Flat, On, flat_step, flat_run, is_entered, entered_count, is_event_unbuilt, first_unbuilt}
+use Rattle.vm_model.specs.Project.{project}
 use Rattle.bao_run.specs.Schedule.{flat_event, IsOfCoreZero}
 use Rattle.bao_run.specs.Fresh.{IsReady}
 use Rattle.bao_run.specs.declared.schedule.Event.{Event}

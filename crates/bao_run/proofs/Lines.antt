@@ -4,7 +4,7 @@ use Rattle.std.specs.Prelude.{All, Option, None, Some, if◌then◌else◌, ◌&
 use Rattle.std.proofs.lemmas.Bool.Decides.{nat_tests}
 use Rattle.std.proofs.lemmas.List.{map-append}
 use Rattle.std.proofs.lemmas.List.Elements.{All-append}
-use Rattle.board.specs.Flat.{FlatEvent, Step}
+use Rattle.vm_model.specs.Flat.{FlatEvent, Step}
 use Rattle.bao_run.specs.Schedule.{flat_event, IsOfCoreZero, is_line, with_event, events_of, schedule_of}
 use Rattle.bao_run.specs.MatchSchedule.{Reads}
 use Rattle.bao_run.specs.declared.schedule.Event.{Event}

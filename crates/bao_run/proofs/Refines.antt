@@ -7,12 +7,16 @@ use Rattle.bao_types.specs.declared.access.Access.TheVariants.{Read, Write, Exec
 use Rattle.bao_types.specs.Region.{covers}
 use Rattle.pmsa_stage2.specs.Stage2.{stage2}
 use Rattle.board.specs.declared.board.Exit.TheVariants as exit
-use Rattle.board.specs.Sample.{sample, sample_packing, sample_shape, hypervisor_entry, memory_entry, console_entry}
-use Rattle.board.specs.Map.{is_within, is_platform_port}
-use Rattle.board.specs.Stage2.{by_map, by_entries}
+use Rattle.report.specs.Sample.{sample}
+use Rattle.bao_run.specs.Sample.{sample_packing, sample_shape, hypervisor_entry, memory_entry, console_entry}
+use Rattle.bao_types.specs.ByteRange.{is_within}
+use Rattle.bao_wellformed.specs.Map.{is_platform_port}
+use Rattle.bao_wellformed.specs.Map.{by_map}
+use Rattle.board.specs.Stage2.{by_entries}
 use Rattle.board.specs.Attempt.{reach_of, attempt, core_of, stored_of}
 use Rattle.board.specs.Machine.{Machine, core_at, entries_at, is_port, written, machine_reach, step_attempt, stepped, step_is_unbuilt}
-use Rattle.board.specs.Flat.{On, Step, project, flat_reach, flat_attempt, flat_step, is_event_unbuilt}
+use Rattle.vm_model.specs.Flat.{On, Step, flat_reach, flat_attempt, flat_step, is_event_unbuilt}
+use Rattle.vm_model.specs.Project.{project}
 
 -- a test up to the last number is one below the next
 up_to : (a n : ℕ) → nat_le a n ≡ nat_lt a (n + 1)

@@ -4,8 +4,8 @@ use Rattle.report.specs.declared.status.FileId.{FileId}
 use Rattle.report.specs.declared.status.Part.TheVariants as part
 use Rattle.report.specs.declared.status.Status.{Status}
 use Rattle.report.specs.declared.status.Status.TheVariants as status
-use Rattle.board.specs.Sample.{sample}
-use Rattle.board.specs.Flat.{FlatEvent, first_unbuilt}
+use Rattle.report.specs.Sample.{sample}
+use Rattle.vm_model.specs.Flat.{FlatEvent, first_unbuilt}
 use Rattle.bao_run.specs.Words.{Run, command_of}
 use Rattle.bao_run.specs.Ruling.{Files, Accept, ruling}
 use Rattle.bao_run.specs.Input.{name_of}

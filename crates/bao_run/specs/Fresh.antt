@@ -1,8 +1,9 @@
 -- The board of the one configuration that is accepted: freshly fitted, and as boot leaves it.
 use Rattle.std.specs.Prelude.{◌≡◌, ℕ, true, List, [], ◌∷◌, replicate}
+use Rattle.bao_types.specs.Region.{no_region}
 use Rattle.a64_state.specs.Registers.{reset_core}
 use Rattle.board.specs.Machine.{Machine, over}
-use Rattle.board.specs.Sample.{sample_shape, sample_packing, zero_entry}
+use Rattle.bao_run.specs.Sample.{sample_shape, sample_packing}
 
 -- fitted for so many events, with ports that have put out nothing
 abbrev pub fresh_machine : ℕ → Machine
@@ -12,7 +13,7 @@ fresh_machine events =
       shape = sample_shape events;
       bytes = λ at. 0;
       cores = reset_core 0 ∷ [];
-      entries = replicate 16 zero_entry ∷ [];
+      entries = replicate 16 no_region ∷ [];
       console = λ port. [];
       count = 0;
       entered = 0;

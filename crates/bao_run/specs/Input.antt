@@ -3,7 +3,7 @@ use Rattle.std.specs.Prelude.{◌≡◌, ℕ, ◌+◌, ◌<◌, ◌≤◌, List,
 use Rattle.std.specs.declared.alloc.Global.{Global}
 use Rattle.outside.specs.Faults.{risen}
 use Rattle.outside.specs.Shelf.{IfTold}
-use Rattle.board.specs.Flat.{FlatEvent}
+use Rattle.vm_model.specs.Flat.{FlatEvent}
 use Rattle.report.specs.declared.status.FileId.{FileId}
 use Rattle.report.specs.declared.status.FileId.TheVariants as file
 use Rattle.report.specs.declared.status.Part.{Part}

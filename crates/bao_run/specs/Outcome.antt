@@ -9,11 +9,14 @@ use Rattle.report.specs.declared.status.Status.TheVariants as status
 use Rattle.report.specs.Lines.{done_line}
 use Rattle.report.specs.Section.{section, report}
 use Rattle.report.specs.Status.{refusal_text}
-use Rattle.board.specs.Config.{Config, Vm}
-use Rattle.board.specs.Sample.{sample, sample_packing}
+use Rattle.bao_config.specs.Data.{ConfigData, VmData}
+use Rattle.report.specs.Sample.{sample}
+use Rattle.bao_run.specs.Sample.{sample_packing}
 use Rattle.board.specs.Machine.{Machine}
-use Rattle.board.specs.Flat.{Flat, FlatEvent, On, project, boot, flat_run, entered_count, first_unbuilt}
-use Rattle.board.specs.Lone.{only, lone}
+use Rattle.vm_model.specs.Flat.{Flat, FlatEvent, On, flat_run, entered_count, first_unbuilt}
+use Rattle.vm_model.specs.Boot.{boot}
+use Rattle.vm_model.specs.Project.{project}
+use Rattle.vm_model.specs.Lone.{only, lone}
 use Rattle.bao_run.specs.Words.{Run, Unbuilt, Unknown, command_of}
 use Rattle.bao_run.specs.Ruling.{Files, Refused, Accept, ruling}
 use Rattle.bao_run.specs.Input.{IfHeld, IsReached, IsRunnable, name_of}
@@ -135,13 +138,13 @@ Outcome call (status.NotBuilt part.Schedule) = IsRun call × IsRuled call (statu
 Outcome call (status.NotBuilt (part.Event number)) = ForSomeInput (IsUnbuiltEvent call number)
 
 -- the sections of VMs, each after its own run alone on the machine
-unfoldable pub lone_sections : Config → List (List ℕ) → List FlatEvent → ℕ → List Vm → List ℕ
+unfoldable pub lone_sections : ConfigData → List (List ℕ) → List FlatEvent → ℕ → List VmData → List ℕ
 lone_sections cfg images events v [] = []
 lone_sections cfg images events v (vm ∷ vms) =
     section (only cfg v) (lone cfg images events v) 0 ++ lone_sections cfg images events (v + 1) vms
 
 -- the report, as each VM alone on the machine would give its section
-abbrev pub lone_report : Config → List (List ℕ) → List FlatEvent → List ℕ
+abbrev pub lone_report : ConfigData → List (List ℕ) → List FlatEvent → List ℕ
 lone_report cfg images events = lone_sections cfg images events 0 cfg.vms ++ done_line
 
 -- The isolation of the VMs: all was run, and the report shows of each VM what it would show if it were alone. Both are said

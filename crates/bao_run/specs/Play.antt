@@ -7,9 +7,9 @@ use Rattle.report.specs.declared.status.Status.{Status}
 use Rattle.report.specs.declared.status.Status.TheVariants as status
 use Rattle.report.specs.Section.{report}
 use Rattle.report.specs.Status.{refusal_text}
-use Rattle.board.specs.Sample.{sample}
+use Rattle.report.specs.Sample.{sample}
 use Rattle.board.specs.Machine.{Machine}
-use Rattle.board.specs.Flat.{FlatEvent, first_unbuilt}
+use Rattle.vm_model.specs.Flat.{FlatEvent, first_unbuilt}
 use Rattle.bao_run.specs.Schedule.{IsOfCoreZero}
 use Rattle.bao_run.specs.Fresh.{booted_machine}
 use Rattle.bao_run.specs.Outcome.{booted, final, IsRunThrough, IsPut}

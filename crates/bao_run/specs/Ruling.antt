@@ -6,7 +6,7 @@ use Rattle.report.specs.declared.status.Part.{Part}
 use Rattle.report.specs.declared.status.Part.TheVariants as part
 use Rattle.report.specs.declared.status.Status.{Status}
 use Rattle.report.specs.declared.status.Status.TheVariants as status
-use Rattle.board.specs.Flat.{FlatEvent}
+use Rattle.vm_model.specs.Flat.{FlatEvent}
 use Rattle.bao_run.specs.Words.{Command, Run, Unbuilt, Unknown, command_of, same}
 use Rattle.bao_run.specs.Schedule.{schedule_of}
 use Rattle.bao_run.specs.declared.config.TheConstants.{SAMPLE_TEXT}

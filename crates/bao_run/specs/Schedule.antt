@@ -1,6 +1,6 @@
 -- What bytes spell a schedule: lines `s 0 D`, each ended by LF, with digits that don't fall.
 use Rattle.std.specs.Prelude.{◌≡◌, ℕ, ◌-◌, ◌==◌, ◌&&◌, nat_le, Bool, if◌then◌else◌, List, [], ◌∷◌, length, Option, None, Some}
-use Rattle.board.specs.Flat.{FlatEvent, Step}
+use Rattle.vm_model.specs.Flat.{FlatEvent, Step}
 use Rattle.bao_run.specs.declared.schedule.Event.{Event}
 use Rattle.bao_run.specs.declared.schedule.Event.TheVariants as event
 

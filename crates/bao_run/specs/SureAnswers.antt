@@ -1,8 +1,8 @@
 -- When the top call must succeed over a shelf that never fails.
 use Rattle.std.specs.Prelude.{◌≡◌, ℕ, ◌<◌, List, Some}
 use Rattle.report.specs.declared.status.Status.{Status}
-use Rattle.board.specs.Sample.{sample}
-use Rattle.board.specs.Flat.{FlatEvent, first_unbuilt}
+use Rattle.report.specs.Sample.{sample}
+use Rattle.vm_model.specs.Flat.{FlatEvent, first_unbuilt}
 use Rattle.bao_run.specs.Ruling.{Files, Accept, ruling}
 use Rattle.bao_run.specs.Outcome.{Call, booted}
 use Rattle.bao_run.specs.Answers.{IsDue, last_count}

@@ -1,7 +1,10 @@
 ghost use Rattle.std.specs.Prelude.{◌≡◌, ◌≤◌, ◌<◌, ◌+◌, ◌∷◌, [], length, replicate, true, false};
+ghost use Rattle.bao_types.specs.Region.{no_region};
 ghost use Rattle.bao_types.specs.Shape.{shape_data};
-ghost use Rattle.board.specs.Sample.{sample, sample_shape, sample_packing, zero_entry};
-ghost use Rattle.board.specs.Flat.{project, On, Step, flat_step, is_event_unbuilt};
+ghost use Rattle.report.specs.Sample.{sample};
+ghost use Rattle.bao_run.specs.Sample.{sample_shape, sample_packing};
+ghost use Rattle.vm_model.specs.Flat.{On, Step, flat_step, is_event_unbuilt};
+ghost use Rattle.vm_model.specs.Project.{project};
 ghost use Rattle.bao_run.specs.Schedule.{flat_event, IsOfCoreZero};
 ghost use Rattle.bao_run.specs.Fresh.{fresh_machine, booted_machine, IsReady};
 
@@ -71,7 +74,7 @@ fn set_entries<B: Board>(board: &mut B)
     requires fitted { (B.state board.old).fitted ≡ true }
     requires at_rest { (B.state board.old).entered ≡ 0 }
     requires shape { (B.state board.old).shape ≡ sample_shape (B.state board.old).shape.events }
-    requires zero { (B.state board.old).entries ≡ replicate 16 zero_entry ∷ [] }
+    requires zero { (B.state board.old).entries ≡ replicate 16 no_region ∷ [] }
     ensures { B.state board.new ≡ record (B.state board.old) { entries = sample_packing ∷ [] } }
 {
     board.set_entry(0, 0, HYPERVISOR);

@@ -1,6 +1,8 @@
 ghost use Rattle.std.specs.Prelude.{◌≡◌};
-ghost use Rattle.board.specs.Sample.{sample, sample_packing};
-ghost use Rattle.board.specs.Stage2.{by_entries, by_map};
+ghost use Rattle.report.specs.Sample.{sample};
+ghost use Rattle.bao_run.specs.Sample.{sample_packing};
+ghost use Rattle.bao_wellformed.specs.Map.{by_map};
+ghost use Rattle.board.specs.Stage2.{by_entries};
 
 /// The entries that core 0 is given have for each access to each byte the verdict of the configuration's map. The
 /// function does nothing; its contract is the law.

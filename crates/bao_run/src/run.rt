@@ -1,6 +1,7 @@
 ghost use Rattle.std.specs.Prelude.{◌≡◌, ◌+◌, ◌≤◌, ◌∷◌, [], All, map, length, MatchResult, OnOk, Some, None};
-ghost use Rattle.board.specs.Sample.{sample};
-ghost use Rattle.board.specs.Flat.{project, On, flat_run, first_unbuilt, entered_count};
+ghost use Rattle.report.specs.Sample.{sample};
+ghost use Rattle.vm_model.specs.Flat.{On, flat_run, first_unbuilt, entered_count};
+ghost use Rattle.vm_model.specs.Project.{project};
 ghost use Rattle.bao_run.specs.Schedule.{flat_event, IsOfCoreZero};
 ghost use Rattle.bao_run.specs.Fresh.{IsReady};
 

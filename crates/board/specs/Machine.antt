@@ -1,16 +1,14 @@
 -- The state of a board, as the hypervisor sees it, and what each call makes of it.
 use Rattle.std.specs.Prelude.{◌≡◌, ℕ, ◌+◌, ◌-◌, ◌<◌, ◌≤◌, ◌==◌, ◌&&◌, ◌⊎◌, nat_le, nat_lt, Bool, true, if◌then◌else◌, IsTrue, Option, is_none, List, [], ◌∷◌, All, map, length, replicate, slice_index, slice_index_or, slice_set}
-use Rattle.std.specs.List.{list_any}
 use Rattle.bao_types.specs.declared.range.ByteRange.{ByteRange}
 use Rattle.bao_types.specs.declared.region.Region.{Region}
-use Rattle.bao_types.specs.Region.{IsCovered, IsEnabled, IsExecuteNever, access_permission}
-use Rattle.bao_types.specs.declared.shape.PortSpot.{PortSpot}
-use Rattle.bao_types.specs.Shape.{ShapeData}
+use Rattle.bao_types.specs.ByteRange.{address_space_end, end, is_within, is_in_one}
+use Rattle.bao_types.specs.Region.{no_region, access_permission, covers, is_enabled, is_execute_never}
+use Rattle.bao_types.specs.Shape.{ShapeData, event_limit, is_port_of}
 use Rattle.a64_state.specs.Core.{CoreData}
 use Rattle.a64_state.specs.Registers.{reset_core}
 use Rattle.board.specs.Stage2.{by_entries}
 use Rattle.board.specs.Attempt.{Reach, reach_of, Effect, attempt, core_of, stored_of}
-use Rattle.board.specs.Map.{is_within}
 
 -- bytes is all memory by address, 0 outside the used ranges; entries are each core's EL2 protection regions; console is what each
 -- port by its id has put out; count is what the last step was handed; entered and spent count the steps and the events since
@@ -33,17 +31,11 @@ core_at cores core = slice_index_or cores core (reset_core 0)
 abbrev pub entries_at : List (List Region) → ℕ → List Region
 entries_at entries core = slice_index_or entries core []
 
-abbrev pub no_region : Region
-no_region = record { base = 0; limit = 0 }
-
 -- the byte is in a range of memory in use
 abbrev pub is_used : ShapeData → ℕ → Bool
-is_used shape at = list_any (λ range. is_within range at) shape.used
+is_used shape = is_in_one (λ range. range) shape.used
 
--- the byte is one of a port's 64
-abbrev pub is_port_of : List PortSpot → ℕ → Bool
-is_port_of ports at = list_any (λ port. is_within (record { base = port.base; size = 64 }) at) ports
-
+-- the byte is one of a port's
 abbrev pub is_port : ShapeData → ℕ → Bool
 is_port shape = is_port_of shape.ports
 
@@ -53,10 +45,10 @@ pub record IsFittable (shape : ShapeData) : Type 0 where
   pub bank : ByteRange
   pub one_bank : shape.banks ≡ bank ∷ []
   pub bank_size : bank.size ≤ 0x4000000
-  pub bank_end : bank.base + bank.size ≤ 0x1000000000000
+  pub bank_end : end bank ≤ address_space_end
   pub used : (at : ℕ) → IsTrue (is_used shape at) → IsTrue (is_within bank at)
   pub entry_counts : All (λ place. place.entries ≤ 32) shape.cores
-  pub events : shape.events ≤ 1000000
+  pub events : shape.events ≤ event_limit
 
 -- freshly fitted: memory and entries are zero, the cores are reset; the ports stay as they were
 abbrev pub fitted_with : ShapeData → Machine → Machine
@@ -94,8 +86,9 @@ AreUsed shape from count = (at : ℕ) → from ≤ at → at < from + count → 
 -- A guest is given memory in use and ports alone, and no port to execute. AP 0 and 2 are for EL2 alone.
 abbrev pub IsSafeEntry : ShapeData → Region → Type 0
 IsSafeEntry shape entry =
-    IsEnabled entry → (access_permission entry ≡ 1) ⊎ (access_permission entry ≡ 3) → (at : ℕ) → IsCovered entry at
-    → IsTrue (is_used shape at) ⊎ (IsTrue (is_port shape at) × IsExecuteNever entry)
+    IsTrue (is_enabled entry) → (access_permission entry ≡ 1) ⊎ (access_permission entry ≡ 3)
+    → (at : ℕ) → IsTrue (covers entry at)
+    → IsTrue (is_used shape at) ⊎ (IsTrue (is_port shape at) × IsTrue (is_execute_never entry))
 
 -- the entry is set
 abbrev pub with_entry : Machine → ℕ → ℕ → Region → Machine

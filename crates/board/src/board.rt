@@ -19,9 +19,9 @@ pub enum Exit {
 /// A board is fitted once with its shape. Every call but `fit` and `entered` asks that it is fitted, and a core, entry or
 /// port in a call is one of the shape's.
 pub trait Board {
-    ghost use Rattle.board.specs.Machine.{Machine, IsFittable, fitted_with, over, AreUsed, IsSafeEntry, with_entry, no_region, entries_at, core_started, core_at, stepped, step_is_unbuilt};
+    ghost use Rattle.board.specs.Machine.{Machine, IsFittable, fitted_with, over, AreUsed, IsSafeEntry, with_entry, entries_at, core_started, core_at, stepped, step_is_unbuilt};
+    ghost use Rattle.bao_types.specs.Region.{no_region, IsWithinMasks};
     ghost use Rattle.board.specs.View.{view_of};
-    ghost use Rattle.board.specs.Entry.{HasEntryBits};
 
     /// What the board is at a moment.
     ghost state: { Self → Machine };
@@ -48,7 +48,7 @@ pub trait Board {
         requires at_rest { (state self.old).entered ≡ 0 }
         requires core { core < length (state self.old).shape.cores }
         requires index { index < length (entries_at (state self.old).entries core) }
-        requires bits { HasEntryBits entry }
+        requires bits { IsWithinMasks entry }
         requires safe { IsSafeEntry (state self.old).shape entry }
         ensures { state self.new ≡ with_entry (state self.old) core index entry };
 

@@ -3,10 +3,12 @@
 //! The text itself is said in `specs/`, over the model's state. Nothing here takes memory.
 #![tactic(auto)]
 
+pub use alone::{a_vm_shows_as_if_alone, a_vm_shows_nothing_else};
 pub use refusal::write_refusal;
 pub use status::{FileId, Part, Status};
 pub use whole::write_report;
 
+mod alone;
 mod line;
 mod lines;
 mod refusal;

@@ -6,7 +6,7 @@ use Rattle.std.proofs.Math.ListN.{get_or-append}
 use Rattle.std.proofs.lemmas.List.{get_or-append_right, get_or-set_other}
 use Rattle.std.proofs.lemmas.Grind.{get_or-set_at}
 use Rattle.bao_types.specs.declared.range.ByteRange.{ByteRange}
-use Rattle.board.specs.Map.{is_within}
+use Rattle.bao_types.specs.ByteRange.{is_within}
 use Rattle.board.specs.Machine.{over, with_byte}
 use Rattle.sim_board.specs.Memory.{bank_bytes}
 

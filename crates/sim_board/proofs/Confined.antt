@@ -5,13 +5,13 @@ use Rattle.std.proofs.lemmas.List.Elements.{All-filter, All-map, All-replicate, 
 use Rattle.bao_types.specs.declared.access.Access.TheVariants.{Write}
 use Rattle.bao_types.specs.declared.access.Verdict.TheVariants.{Allow, Permission}
 use Rattle.bao_types.specs.declared.region.Region.{Region}
-use Rattle.bao_types.specs.Region.{is_match, matching_regions}
+use Rattle.bao_types.specs.Region.{no_region, is_match, matching_regions}
 use Rattle.bao_types.specs.RegionMatch.{match_of}
 use Rattle.bao_types.specs.Shape.{ShapeData}
 use Rattle.bao_types.specs.declared.shape.CorePlace.{CorePlace}
 use Rattle.pmsa_stage2.specs.Stage2.{gives_guest, match_verdict, stage2}
 use Rattle.board.specs.Attempt.{is_allowed, reaches}
-use Rattle.board.specs.Machine.{is_used, is_port, no_region}
+use Rattle.board.specs.Machine.{is_used, is_port}
 use Rattle.sim_board.specs.Sound.{IsConfined}
 
 module _ (shape : ShapeData) (at : ℕ) where

@@ -1,7 +1,7 @@
 -- The bytes of a memory bank by address.
 use Rattle.std.specs.Prelude.{ℕ, ◌-◌, if◌then◌else◌, List, [], Option, Some, None, slice_index}
 use Rattle.bao_types.specs.declared.range.ByteRange.{ByteRange}
-use Rattle.board.specs.Map.{is_within}
+use Rattle.bao_types.specs.ByteRange.{is_within}
 
 -- the list is the bank's bytes; there is nothing outside
 abbrev pub bank_bytes : ByteRange → List ℕ → ℕ → ℕ

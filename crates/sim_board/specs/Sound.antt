@@ -7,7 +7,7 @@ use Rattle.bao_types.specs.Shape.{ShapeData, shape_data}
 use Rattle.bao_types.specs.declared.access.Access.TheVariants.{Write}
 use Rattle.bao_types.specs.Region.{is_match}
 use Rattle.pmsa_stage2.specs.Stage2.{gives_guest}
-use Rattle.board.specs.Map.{is_within}
+use Rattle.bao_types.specs.ByteRange.{is_within}
 use Rattle.board.specs.Machine.{is_used, is_port}
 
 -- the entry lets a guest store to memory in use and to ports alone

@@ -1,9 +1,8 @@
 ghost use Rattle.std.specs.Prelude.{◌≡◌};
 ghost use Rattle.board.specs.Attempt.{all_from};
-ghost use Rattle.board.specs.Machine.{is_port_of};
 ghost use Rattle.sim_board.specs.Guard.{reached};
 
-use bao_types::{Access, ByteRange, PortSpot, Region, Verdict};
+use bao_types::{Access, PortSpot, Region, Verdict, is_port};
 use pmsa_stage2::judge2;
 
 /// What decides which bytes a core reaches: its EL2 entries, and the ports, which no access to data reaches yet.
@@ -34,21 +33,5 @@ impl Guard<'_> {
             return false;
         }
         access == Access::Exec || !is_port(self.ports, at)
-    }
-}
-
-/// Whether an address is one of a port's 64.
-fn is_port(ports: &[PortSpot], at: u64) -> bool
-    ensures { result ≡ is_port_of ports.now at }
-{
-    ports.iter().any(|port| port_range(port).contains(at))
-}
-
-fn port_range(port: &PortSpot) -> ByteRange
-    ensures { result ≡ record { base = port.now.base; size = 64 } }
-{
-    ByteRange {
-        base: port.base,
-        size: 64,
     }
 }

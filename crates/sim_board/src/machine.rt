@@ -1,7 +1,8 @@
 ghost use Rattle.std.specs.Prelude.{◌≡◌, ◌+◌, ◌≤◌, ◌<◌, false, length, slice_set, map, replicate, All, IfOk};
 ghost use Rattle.bao_types.specs.Shape.{shape_data};
 ghost use Rattle.a64_state.specs.Registers.{reset_core};
-ghost use Rattle.board.specs.Machine.{no_region, entries_at};
+ghost use Rattle.bao_types.specs.Region.{no_region};
+ghost use Rattle.board.specs.Machine.{entries_at};
 ghost use Rattle.sim_board.specs.Memory.{kept};
 ghost use Rattle.sim_board.specs.Sound.{IsSound};
 

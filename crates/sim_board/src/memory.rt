@@ -3,7 +3,7 @@
 ghost use Rattle.std.specs.Prelude.{◌≡◌, ◌≤◌, ◌<◌, ◌^◌, length, IsTrue};
 ghost use Rattle.board.specs.Attempt.{number_at as number_from, all_from, stores_from};
 ghost use Rattle.board.specs.Machine.{written};
-ghost use Rattle.board.specs.Map.{is_within};
+ghost use Rattle.bao_types.specs.ByteRange.{is_within};
 ghost use Rattle.sim_board.specs.Memory.{bank_bytes};
 
 use bao_types::ByteRange;

@@ -2,9 +2,9 @@
 
 ghost use Rattle.std.specs.Prelude.{◌≡◌, true, false, OnOk};
 ghost use Rattle.bao_types.specs.Shape.{shape_data};
-ghost use Rattle.board.specs.Entry.{HasEntryBits};
+ghost use Rattle.bao_types.specs.Region.{IsWithinMasks};
 ghost use Rattle.board.specs.Machine.{IsSafeEntry};
-ghost use Rattle.board.specs.Sample.{sample_shape};
+ghost use Rattle.bao_run.specs.Sample.{sample_shape};
 
 use bao_types::{ByteRange, CorePlace, OutOfMemory, PortSpot, Region, Shape};
 use board::{Board, Exit};
@@ -68,7 +68,7 @@ fn shape() -> Shape
 /// Lets a core take the three steps of `PROGRAM` over the lower half and such an upper half, and answers their exits.
 fn play<B: Board>(alloc: Global, board: &mut B, upper: Region) -> Result<[Exit; 3], OutOfMemory>
     requires unfitted { (B.state board.old).fitted ≡ false }
-    requires bits { HasEntryBits upper }
+    requires bits { IsWithinMasks upper }
     requires safe { IsSafeEntry (sample_shape 8) upper }
     ensures fitted { OnOk result ((B.state board.new).fitted ≡ true) }
     ensures shape { OnOk result ((B.state board.new).shape ≡ sample_shape 8) }

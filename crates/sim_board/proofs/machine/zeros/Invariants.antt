@@ -1,5 +1,5 @@
 use Rattle.std.proofs.Common.{◌≡◌, replicate}
-use Rattle.board.specs.Machine.{no_region}
+use Rattle.bao_types.specs.Region.{no_region}
 use Rattle.sim_board.proofs.machine.zeros.Given as goal
 
 abbrev pub invariant-loop-i : goal.invariant-loop-i

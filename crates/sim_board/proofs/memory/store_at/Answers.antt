@@ -1,7 +1,7 @@
 use Rattle.std.proofs.Common.{◌+◌, ◌-◌, ◌/◌, ◌%◌, ◌^◌, ◌<◌, length, length-set, sym, ap, ◌∙◌, arith}
 use Rattle.board.specs.Attempt.{stores_from}
 use Rattle.board.specs.Machine.{written}
-use Rattle.board.specs.Map.{is_within}
+use Rattle.bao_types.specs.ByteRange.{is_within}
 use Rattle.sim_board.specs.Memory.{bank_bytes}
 use Rattle.sim_board.proofs.Access.{all_from-first, stores_from-more}
 use Rattle.sim_board.proofs.Bank.{bank_bytes-set}

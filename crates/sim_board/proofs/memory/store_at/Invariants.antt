@@ -2,7 +2,7 @@ use Rattle.std.proofs.Common.{◌≡◌, ◌+◌, ◌-◌, ◌%◌, ◌^◌, len
 use Rattle.std.specs.Prelude.{IsTrue}
 use Rattle.board.specs.Attempt.{all_from, stores_from}
 use Rattle.board.specs.Machine.{written}
-use Rattle.board.specs.Map.{is_within}
+use Rattle.bao_types.specs.ByteRange.{is_within}
 use Rattle.sim_board.specs.Memory.{bank_bytes}
 use Rattle.sim_board.proofs.memory.store_at.Given as goal
 

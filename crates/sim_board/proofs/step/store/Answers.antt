@@ -1,6 +1,6 @@
 use Rattle.std.proofs.Common.{sym, ◌∙◌}
 use Rattle.bao_types.specs.declared.access.Access.TheVariants.{Write}
-use Rattle.board.specs.Map.{is_within}
+use Rattle.bao_types.specs.ByteRange.{is_within}
 use Rattle.sim_board.specs.Guard.{reached}
 use Rattle.sim_board.proofs.Access.{all_from-weaker}
 use Rattle.sim_board.proofs.step.store.Goals as goal

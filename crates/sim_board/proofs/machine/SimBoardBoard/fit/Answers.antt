@@ -5,7 +5,7 @@ use Rattle.std.proofs.lemmas.Simd.{map-map}
 use Rattle.bao_types.specs.declared.range.ByteRange.{ByteRange}
 use Rattle.bao_types.specs.Shape.{shape_data}
 use Rattle.a64_state.specs.Registers.{reset_core}
-use Rattle.board.specs.Machine.{no_region}
+use Rattle.bao_types.specs.Region.{no_region}
 use Rattle.sim_board.specs.Memory.{bank_bytes}
 use Rattle.sim_board.specs.Sound.{IsConfined}
 use Rattle.sim_board.proofs.Bank.{bank_bytes-zeros}

@@ -7,7 +7,7 @@ use Rattle.bao_types.specs.declared.region.Region.{Region}
 use Rattle.bao_types.specs.Shape.{shape_data}
 use Rattle.pmsa_stage2.specs.Stage2.{stage2}
 use Rattle.board.specs.Attempt.{reaches}
-use Rattle.board.specs.Machine.{is_port_of}
+use Rattle.bao_types.specs.Shape.{is_port_of}
 use Rattle.sim_board.specs.Sound.{IsConfined}
 use Rattle.sim_board.proofs.Confined.{confined_store}
 use Rattle.sim_board.proofs.machine.SimBoardBoard.step.Goals as goal
