@@ -73,6 +73,10 @@ grant Hole = Nothing
 abbrev pub has_core : ℕ → VmData → Bool
 has_core core vm = list_any (λ own. own == core) vm.cores
 
+-- the VM is given this port
+abbrev pub has_port : ℕ → VmData → Bool
+has_port port vm = list_any (λ dev. dev.port == port) vm.devs
+
 abbrev pub owner : ConfigData → ℕ → Option VmData
 owner cfg core = find (has_core core) cfg.vms
 

@@ -5,7 +5,7 @@ use Rattle.std.specs.List.{list_any}
 use Rattle.std.proofs.lemmas.Bool.Decides.{nat_tests}
 use Rattle.bao_config.specs.Data.{ConfigData, VmData}
 use Rattle.bao_config.specs.declared.config.Dev.{Dev}
-use Rattle.bao_wellformed.specs.Map.{Kind, Ram, Port, Window, Hole, kind_at, has_core}
+use Rattle.bao_wellformed.specs.Map.{Kind, Ram, Port, Window, Hole, kind_at, has_core, has_port}
 use Rattle.board.specs.Machine.{core_at}
 use Rattle.board.specs.View.{view_of}
 use Rattle.vm_model.specs.Flat.{Flat, flat_run}
@@ -56,12 +56,16 @@ module _ (cfg : ConfigData) (vm : VmData) (f g : Flat) (agree : Agree cfg vm f g
       ap (λ t. t ++ cores_text f (j + 1) cores) (core_alike j core (all core (rw self refl)))
       ∙ ap (λ t. core_text g j core ++ t) (cores_alike (j + 1) cores (λ c h. all c (in_rest (core == c) _ h)))
 
-  consoles_alike : (devs : List Dev) → consoles_text f devs ≡ consoles_text g devs
+  consoles_alike : (devs : List Dev) → ((port : ℕ) → IsTrue (list_any (λ dev. dev.port == port) devs) → IsTrue (has_port port vm))
+      → consoles_text f devs ≡ consoles_text g devs
   unfolding consoles_text
-  consoles_alike [] = refl
-  consoles_alike (dev ∷ devs) =
-      ap (λ c. (if is_console dev.port then console_line dev.port (c dev.port) else []) ++ consoles_text f devs) agree.console
-      ∙ ap (λ t. (if is_console dev.port then console_line dev.port (g.console dev.port) else []) ++ t) (consoles_alike devs)
+  consoles_alike [] all = refl
+  consoles_alike (dev ∷ devs) all =
+      let self : (dev.port == dev.port) ≡ true = grind (arith, nat_tests) in
+      ap (λ output. (if is_console dev.port then console_line dev.port output else []) ++ consoles_text f devs)
+      (agree.consoles dev.port (all dev.port (rw self refl)))
+      ∙ ap (λ t. (if is_console dev.port then console_line dev.port (g.console dev.port) else []) ++ t)
+      (consoles_alike devs (λ port h. all port (in_rest (dev.port == port) _ h)))
 
   by_memory : (at : ℕ) (m : Bool) → is_memory (kind_at cfg vm at) ≡ m → at % 16 ≡ 0
       → (if m && not (are_zero (run_of f.bytes at 16)) then memory_line at (run_of f.bytes at 16) else [])
@@ -86,7 +90,7 @@ module _ (cfg : ConfigData) (vm : VmData) (f g : Flat) (agree : Agree cfg vm f g
       ap (λ t. vm_line vm.name ++ (t ++ (consoles_text f vm.devs ++ (memory_text cfg vm f.bytes all_groups 0 ++ end_line vm.name))))
       (cores_alike 0 vm.cores (λ c h. h))
       ∙ ap (λ t. vm_line vm.name ++ (cores_text g 0 vm.cores ++ (t ++ (memory_text cfg vm f.bytes all_groups 0 ++ end_line vm.name))))
-      (consoles_alike vm.devs)
+      (consoles_alike vm.devs (λ port h. h))
       ∙ ap (λ t. vm_line vm.name ++ (cores_text g 0 vm.cores ++ (consoles_text g vm.devs ++ (t ++ end_line vm.name))))
       (memory_alike all_groups 0 refl)
 

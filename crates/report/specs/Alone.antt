@@ -4,7 +4,8 @@ use Rattle.bao_config.specs.Data.{ConfigData, VmData}
 use Rattle.vm_model.specs.Flat.{FlatEvent, flat_run}
 use Rattle.vm_model.specs.Boot.{boot}
 use Rattle.vm_model.specs.Lone.{only, view, lone}
-use Rattle.vm_model.specs.Apart.{IsApart, IsGranular, IsStep}
+use Rattle.vm_model.specs.Apart.{IsApart, IsGranular}
+use Rattle.vm_model.specs.Alone.{IsStep}
 use Rattle.report.specs.Section.{section}
 
 -- after every schedule the section of such a VM is the one of its own run

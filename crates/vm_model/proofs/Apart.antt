@@ -5,7 +5,7 @@ use Rattle.std.proofs.lemmas.Bool.Decides.{nat_tests}
 use Rattle.bao_types.specs.declared.access.Access.TheVariants.{Write}
 use Rattle.bao_config.specs.Data.{VmData}
 use Rattle.bao_types.specs.ByteRange.{is_within}
-use Rattle.bao_wellformed.specs.Map.{is_platform_port, has_core}
+use Rattle.bao_wellformed.specs.Map.{is_platform_port, has_core, has_port}
 use Rattle.bao_wellformed.specs.Map.{by_map}
 use Rattle.board.specs.Attempt.{reaches}
 use Rattle.vm_model.specs.Lone.{is_core_of, is_in_window}
@@ -114,6 +114,33 @@ not_b core stranger c false e one = refl
 not_b core stranger true true e one = absurd (grind (arith, nat_tests))
 not_b core stranger false true e one = let x : true ≡ false = rw (e, one) at stranger in cc
 
+-- whose port it is
+port_of_a : (port : ℕ) → IsTrue (has_port port vm_a) → (c d : Bool) → (0 == port) ≡ c → (1 == port) ≡ d → IsFalse (has_port port vm_b)
+port_of_a port has c false e one = rw one refl
+port_of_a port has true true e one = absurd (grind (arith, nat_tests))
+port_of_a port has false true e one = let x : false ≡ true = rw e at has in cc
+
+port_of_b : (port : ℕ) → IsTrue (has_port port vm_b) → (c d : Bool) → (0 == port) ≡ c → (1 == port) ≡ d → IsFalse (has_port port vm_a)
+port_of_b port has false d e one = rw e refl
+port_of_b port has true true e one = absurd (grind (arith, nat_tests))
+port_of_b port has true false e one = let x : false ≡ true = rw one at has in cc
+
+ports_of_a : (w : ℕ) (other : VmData) (port : ℕ) → w ≢ 0 → slice_get (vm_a ∷ vm_b ∷ []) w ≡ Some other
+    → IsTrue (has_port port vm_a) → IsFalse (has_port port other)
+ports_of_a zero other port but got has = absurd (but refl)
+ports_of_a (suc zero) other port but got has =
+    let vm : vm_b ≡ other = cc in
+    subst (λ x. IsFalse (has_port port x)) vm (port_of_a port has (0 == port) (1 == port) refl refl)
+ports_of_a (suc (suc w)) other port but got has = cc
+
+ports_of_b : (w : ℕ) (other : VmData) (port : ℕ) → w ≢ 1 → slice_get (vm_a ∷ vm_b ∷ []) w ≡ Some other
+    → IsTrue (has_port port vm_b) → IsFalse (has_port port other)
+ports_of_b zero other port but got has =
+    let vm : vm_a ≡ other = cc in
+    subst (λ x. IsFalse (has_port port x)) vm (port_of_b port has (0 == port) (1 == port) refl refl)
+ports_of_b (suc zero) other port but got has = absurd (but refl)
+ports_of_b (suc (suc w)) other port but got has = cc
+
 module _ (a b : List ℕ) (fit : AreFit a b) where
   pub a_is_apart : IsApart pair (a ∷ b ∷ []) 0 vm_a
   a_is_apart = record {
@@ -123,6 +150,7 @@ module _ (a b : List ℕ) (fit : AreFit a b) where
         stores_of_b core at (hyp core at) (memory_a core at) (memory_b core at) (shared core at) (port_a core at) (port_b core at)
         refl refl refl refl refl refl (not_a core stranger (0 == core) refl) (1 == core) refl may in_map;
     loads = λ w other image at but got given in_map. of_place w other image at but got given in_map;
+    ports = ports_of_a;
   }
     where
       of_place : (w : ℕ) (other : VmData) (image : List ℕ) (at : ℕ) → w ≢ 0 → slice_get (vm_a ∷ vm_b ∷ []) w ≡ Some other
@@ -145,6 +173,7 @@ module _ (a b : List ℕ) (fit : AreFit a b) where
         stores_of_a core at (hyp core at) (memory_a core at) (memory_b core at) (shared core at) (port_a core at) (port_b core at)
         refl refl refl refl refl refl (not_b core stranger (0 == core) (1 == core) refl refl) (0 == core) refl may in_map;
     loads = λ w other image at but got given in_map. of_place w other image at but got given in_map;
+    ports = ports_of_b;
   }
     where
       of_place : (w : ℕ) (other : VmData) (image : List ℕ) (at : ℕ) → w ≢ 1 → slice_get (vm_a ∷ vm_b ∷ []) w ≡ Some other

@@ -4,5 +4,6 @@ pub mod Own
 pub mod Strangers
 pub mod Boot
 pub mod Run
+pub mod View
 pub mod Apart
 pub mod Granular

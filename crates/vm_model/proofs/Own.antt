@@ -97,7 +97,7 @@ module _ (cfg : ConfigData) (v : ℕ) (vm : VmData) (place : slice_get cfg.vms v
           core_count =
               length-set f.cores core (core_of (core_at f.cores core) (flat_attempt cfg f core now)) ∙ agree.core_count
               ∙ sym (length-set g.cores core (core_of (core_at g.cores core) (flat_attempt (single cfg vm) g core now)));
-          console = agree.console;
+          consoles = agree.consoles;
         }
 
     by_runs : (r s : Bool) → r ≡ s

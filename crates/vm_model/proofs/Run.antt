@@ -1,15 +1,29 @@
 -- A whole run, event by event.
 use Rattle.std.proofs.Common.{◌≡◌, ℕ, suc, Bool, true, false, List, [], ◌∷◌, ◌++◌, All, refl, sym, ap, subst, arith}
-use Rattle.std.specs.Prelude.{if◌then◌else◌, slice_get, option_to_list}
+use Rattle.std.specs.Prelude.{if◌then◌else◌, Some, slice_get, option_to_list}
 use Rattle.bao_config.specs.Data.{ConfigData, VmData}
 use Rattle.vm_model.specs.Flat.{Flat, FlatEvent, Step, Wrote, flat_step, flat_run}
 use Rattle.vm_model.specs.Boot.{boot}
 use Rattle.vm_model.specs.Lone.{only, is_core_of, emitted, seen, view}
 use Rattle.vm_model.specs.Agree.{Agree}
-use Rattle.vm_model.specs.Apart.{IsApart, IsStep, RunsAsIfAlone}
+use Rattle.vm_model.specs.Apart.{IsApart}
+use Rattle.vm_model.specs.Alone.{OwnStepsAgree, OtherStepsAgree, IsStep, RunsAsIfAlone}
 use Rattle.vm_model.proofs.Own.{single, own_step}
 use Rattle.vm_model.proofs.Strangers.{stranger_step}
 use Rattle.vm_model.proofs.Boot.{boots_alike}
+
+-- the configuration of the VM alone, where it is at this place
+alone : (cfg : ConfigData) (v : ℕ) (vm : VmData) → slice_get cfg.vms v ≡ Some vm → single cfg vm ≡ only cfg v
+alone cfg v vm place = ap (λ o. record cfg { vms = option_to_list o }) (sym place)
+
+pub own_steps_agree : OwnStepsAgree
+own_steps_agree cfg v vm core now f g place own agree =
+    subst (λ c. Agree cfg vm (flat_step cfg f (Step core now)) (flat_step c g (Step core now))) (alone cfg v vm place)
+    (own_step cfg v vm place core own f g agree now)
+
+pub other_steps_agree : OtherStepsAgree
+other_steps_agree cfg images v vm core now f g apart stranger agree =
+    stranger_step cfg (only cfg v) images v vm apart core now stranger f g agree
 
 flat_run-append : (cfg : ConfigData) (f : Flat) (xs ys : List FlatEvent) → flat_run cfg f (xs ++ ys) ≡ flat_run cfg (flat_run cfg f xs) ys
 flat_run-append cfg f [] ys = refl
@@ -38,10 +52,9 @@ module _ (cfg : ConfigData) (images : List (List ℕ)) (v : ℕ) (vm : VmData) (
 
 pub runs_as_if_alone : RunsAsIfAlone
 runs_as_if_alone cfg images events v vm apart steps =
-    let alone : single cfg vm ≡ only cfg v = ap (λ o. record cfg { vms = option_to_list o }) (sym apart.place) in
     subst
     (λ c. Agree cfg vm (flat_run cfg (boot cfg images) events)
     (flat_run c (boot c (option_to_list (slice_get images v))) (view cfg (boot cfg images) v events)))
-    alone
+    (alone cfg v vm apart.place)
     (whole_run cfg images v vm apart events steps (boot cfg images)
     (boot (single cfg vm) (option_to_list (slice_get images v))) (boots_alike cfg images v vm apart))

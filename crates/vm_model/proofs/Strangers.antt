@@ -54,7 +54,7 @@ module _ (cfg lone_cfg : ConfigData) (images : List (List ℕ)) (v : ℕ) (vm : 
         ∙ agree.cores c has;
     powers = agree.powers;
     core_count = length-set f.cores core (core_of (core_at f.cores core) (flat_attempt cfg f core now)) ∙ agree.core_count;
-    console = agree.console;
+    consoles = agree.consoles;
   }
 
   by_runs : (r : Bool)
