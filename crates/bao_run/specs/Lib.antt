@@ -1,12 +1,15 @@
 pub mod Sample
+pub mod Shape
 pub mod Words
 pub mod Command
 pub mod Schedule
 pub mod MatchSchedule
+pub mod Call
 pub mod Ruling
 pub mod Fresh
 pub mod Input
 pub mod Outcome
 pub mod Play
+pub mod Steps
 pub mod Answers
 pub mod SureAnswers

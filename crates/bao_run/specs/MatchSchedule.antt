@@ -15,9 +15,16 @@ pub record Reads (bytes : List ℕ) (events : List Event) : Type 0 where
 
 -- By the answer: the events; that the bytes are no schedule; and want of memory, which may always come.
 abbrev pub MatchStatus : List ℕ → Status → Type 0
-MatchStatus bytes (status.NotBuilt part.Schedule) = schedule_of bytes ≡ None
+MatchStatus bytes status.Done = ⊥
+MatchStatus bytes status.Usage = ⊥
+MatchStatus bytes (status.ReadFault file) = ⊥
+MatchStatus bytes (status.TooLong file limit) = ⊥
+MatchStatus bytes status.WriteFault = ⊥
 MatchStatus bytes status.OutOfMemory = ⊤
-MatchStatus bytes _ = ⊥
+MatchStatus bytes (status.NotBuilt part.Words) = ⊥
+MatchStatus bytes (status.NotBuilt part.Config) = ⊥
+MatchStatus bytes (status.NotBuilt part.Schedule) = schedule_of bytes ≡ None
+MatchStatus bytes (status.NotBuilt (part.Event number)) = ⊥
 
 abbrev pub MatchSchedule : List ℕ → Result (Vec Event Global) Status → Type 0
 MatchSchedule bytes (Ok events) = Reads bytes events.items

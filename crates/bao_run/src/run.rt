@@ -16,6 +16,7 @@ pub fn run<B: Board>(board: &mut B, events: &[Event]) -> Result<(), u32>
     requires few { length events.now ≤ 1000000 }
     requires spent { (B.state board.old).spent + length events.now ≤ (B.state board.old).shape.events }
     ensures ready { IsReady (B.state board.new) }
+    ensures shape { (B.state board.new).shape ≡ (B.state board.old).shape }
     ensures built { MatchResult result
         (λ _. first_unbuilt sample (project (On ∷ []) (B.state board.old)) 0 (map flat_event events.now) ≡ None)
         (λ number. first_unbuilt sample (project (On ∷ []) (B.state board.old)) 0 (map flat_event events.now) ≡ Some number) }
