@@ -8,7 +8,7 @@ use Rattle.std.proofs.lemmas.Grind.{get_or-set_at}
 use Rattle.bao_types.specs.declared.range.ByteRange.{ByteRange}
 use Rattle.bao_types.specs.ByteRange.{is_within}
 use Rattle.board.specs.Machine.{over, with_byte}
-use Rattle.sim_board.specs.Memory.{bank_bytes}
+use Rattle.sim_board.specs.Bank.{placed}
 
 -- what the test of a range says
 pub within_bounds : (range : ByteRange) (at : ℕ) → IsTrue (is_within range at) → (range.base ≤ at) × (at < range.base + range.size)
@@ -75,7 +75,7 @@ module _ (bank : ByteRange) (memory bytes : List ℕ) (at : ℕ) (size : length 
 
   copied_at : (a : ℕ) (within from to : Bool)
       → is_within bank a ≡ within → nat_le at a ≡ from → nat_lt a (at + length bytes) ≡ to
-      → bank_bytes bank replaced a ≡ over at bytes (bank_bytes bank memory) a
+      → placed bank replaced a ≡ over at bytes (placed bank memory) a
   copied_at a true true true w f t =
       let f' = le_of at a f in let t' = lt_of a (at + length bytes) t in
       rw (w, f, t) (inside memory bytes (at - bank.base) (a - bank.base) fits (omega arith) (omega arith)
@@ -93,15 +93,15 @@ module _ (bank : ByteRange) (memory bytes : List ℕ) (at : ℕ) (size : length 
   copied_at a false false to w f t = rw (w, f) refl
 
   -- memory by address has these bytes from at on
-  pub bank_bytes_copied : bank_bytes bank replaced ≡ over at bytes (bank_bytes bank memory)
-  bank_bytes_copied = λ i a. copied_at a (is_within bank a) (nat_le at a) (nat_lt a (at + length bytes)) refl refl refl i
+  pub placed-copied : placed bank replaced ≡ over at bytes (placed bank memory)
+  placed-copied = λ i a. copied_at a (is_within bank a) (nat_le at a) (nat_lt a (at + length bytes)) refl refl refl i
 
 -- a bank of zeros
-pub bank_bytes-zeros : (bank : ByteRange) (memory : List ℕ) → ((i : ℕ) → slice_index memory i ≡ 0)
-    → bank_bytes bank memory ≡ (λ a. 0)
-bank_bytes-zeros bank memory zeros = λ i a. zero_at a (is_within bank a) refl i
+pub placed-zeros : (bank : ByteRange) (memory : List ℕ) → ((i : ℕ) → slice_index memory i ≡ 0)
+    → placed bank memory ≡ (λ a. 0)
+placed-zeros bank memory zeros = λ i a. zero_at a (is_within bank a) refl i
   where
-    zero_at : (a : ℕ) (within : Bool) → is_within bank a ≡ within → bank_bytes bank memory a ≡ 0
+    zero_at : (a : ℕ) (within : Bool) → is_within bank a ≡ within → placed bank memory a ≡ 0
     zero_at a true w = rw w (zeros (a - bank.base))
     zero_at a false w = rw w refl
 
@@ -109,7 +109,7 @@ bank_bytes-zeros bank memory zeros = λ i a. zero_at a (is_within bank a) refl i
 module _ (bank : ByteRange) (memory : List ℕ) (at value : ℕ) (size : length memory ≡ bank.size)
     (held : IsTrue (is_within bank at)) where
   set_at : (a : ℕ) (within same : Bool) → is_within bank a ≡ within → (a == at) ≡ same
-      → bank_bytes bank (set memory (at - bank.base) value) a ≡ with_byte at value (bank_bytes bank memory) a
+      → placed bank (set memory (at - bank.base) value) a ≡ with_byte at value (placed bank memory) a
   set_at a true true w s =
       let e : a ≡ at = grind (arith, nat_tests) in let inside = within_bounds bank at held in
       let place : a - bank.base ≡ at - bank.base = omega arith in
@@ -125,5 +125,5 @@ module _ (bank : ByteRange) (memory : List ℕ) (at value : ℕ) (size : length 
   set_at a false false w s = rw (w, s) refl
 
   -- memory by address has this one byte written
-  pub bank_bytes-set : bank_bytes bank (set memory (at - bank.base) value) ≡ with_byte at value (bank_bytes bank memory)
-  bank_bytes-set = λ i a. set_at a (is_within bank a) (a == at) refl refl i
+  pub placed-set : placed bank (set memory (at - bank.base) value) ≡ with_byte at value (placed bank memory)
+  placed-set = λ i a. set_at a (is_within bank a) (a == at) refl refl i
