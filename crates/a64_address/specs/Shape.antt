@@ -2,6 +2,7 @@
 -- load, elements in a pair and where it is unsigned, and else bytes. `isv` is true of an access by one register without
 -- write-back (ARM DDI 0487, "ISS encoding for an exception from a Data Abort", ISV).
 use Rattle.std.specs.Prelude.{◌≡◌, ℕ, ◌^◌, ◌⊎◌, Option, Some, None, Bool, true, false, not, if◌then◌else◌}
+pub use Rattle.bao_types.specs.Bytes.{IsWidth}
 use Rattle.a64_state.specs.Core.{CoreData}
 use Rattle.a64_state.specs.Registers.{x_of}
 use Rattle.a64_decode.specs.Lawful.{is_prefetch, writes_back}
@@ -99,10 +100,6 @@ memory_shape core (LoadStoreRegister size transfer rm extend scaled rn rt) =
     }
     )
 memory_shape core _ = None
-
--- the widths of an element in bytes
-abbrev pub IsWidth : ℕ → Type 0
-IsWidth width = (width ≡ 1) ⊎ (width ≡ 2) ⊎ (width ≡ 4) ⊎ (width ≡ 8)
 
 -- the numbers of elements
 abbrev pub IsCount : ℕ → Type 0

@@ -3,15 +3,15 @@ use Rattle.std.specs.Prelude.{◌≡◌, ℕ, ℤ, pos, negsuc, ◌≤◌, ◌%�
 use Rattle.bao_config.specs.declared.bounds.Bounds.{Bounds}
 
 -- the number is within the bounds, both included, and a multiple of the stated one
-pub record IsWithin (bounds : Bounds) (n : ℕ) : Type 0 where
+pub record IsInBounds (bounds : Bounds) (n : ℕ) : Type 0 where
   pub least : bounds.least ≤ n
   pub most : n ≤ bounds.most
   pub multiple : n % bounds.multiple ≡ 0
 
 -- the same as a test; no negative number passes
-abbrev pub is_within : Bounds → ℤ → Bool
-is_within bounds (pos n) = nat_le bounds.least n && nat_le n bounds.most && (n % bounds.multiple == 0)
-is_within bounds (negsuc n) = false
+abbrev pub is_in_bounds : Bounds → ℤ → Bool
+is_in_bounds bounds (pos n) = nat_le bounds.least n && nat_le n bounds.most && (n % bounds.multiple == 0)
+is_in_bounds bounds (negsuc n) = false
 
 abbrev pub version : Bounds
 version = record { least = 1; most = 1; multiple = 1 }

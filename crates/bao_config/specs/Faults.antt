@@ -7,7 +7,7 @@ use Rattle.bao_config.specs.declared.bounds.Bounds.{Bounds}
 use Rattle.bao_config.specs.declared.error.Spot.{Spot}
 use Rattle.bao_config.specs.declared.error.ConfigError.{ConfigError}
 use Rattle.bao_config.specs.declared.error.ConfigError.TheVariants.{BadShape, BadValue, OutOfMemory}
-use Rattle.bao_config.specs.Bounds.{is_within}
+use Rattle.bao_config.specs.Bounds.{is_in_bounds}
 
 -- What may stand at a row of the key table.
 mutual
@@ -94,7 +94,7 @@ unknown_faults names spot ms = if all_known names ms then [] else BadShape spot 
 -- array's items in order, or those of a table's keys in order and then the one for its unknown keys.
 abbrev mutual
   pub faults : Item → Spot → Data → List ConfigError
-  faults (number bounds) spot d = or_shape spot (as_integer d) (λ z. if is_within bounds z then [] else BadValue spot z ∷ [])
+  faults (number bounds) spot d = or_shape spot (as_integer d) (λ z. if is_in_bounds bounds z then [] else BadValue spot z ∷ [])
   faults (text test) spot d = or_shape spot (option_and_then (passing test) (as_str d)) (λ s. [])
   faults (list least most row place what) spot d =
       or_shape spot (items_within least most d) (each (λ n e. faults what (place n (at_row row spot)) e) 0)

@@ -20,7 +20,8 @@ pub struct Platform {
     pub ports: ArrayVec<PortPlace, 16>,
 }
 
-/// A device port of the platform: 64 bytes from `base` on.
+/// A device port as the configuration lists it, 64 bytes from `base` on. Which cores its line reaches follows from the
+/// VMs; the board's `PortSpot` says that too.
 #[derive(Clone, Copy, Debug, Default, PartialEq, Eq)]
 pub struct PortPlace {
     /// 0 to 15: the place in the standard list of ports.

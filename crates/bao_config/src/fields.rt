@@ -3,7 +3,7 @@ ghost use Rattle.std.specs.Prelude.{◌≡◌, ◌<◌, ◌≤◌, [], List, ℕ
 ghost use Rattle.toml.specs.Data.{get_member, as_str, as_array, as_table};
 ghost use Rattle.toml.specs.View.{view, table_view, items_view};
 ghost use Rattle.bao_config.specs.declared.error.ConfigError.TheVariants.{BadShape};
-ghost use Rattle.bao_config.specs.Bounds.{IsWithin};
+ghost use Rattle.bao_config.specs.Bounds.{IsInBounds};
 ghost use Rattle.bao_config.specs.Faults.{faults, number, text, items_within, or_shape, unknown_faults, is_one_of, IsFirst};
 ghost use Rattle.bao_config.specs.Spelled.{number_of};
 ghost use Rattle.bao_config.specs.Answer.{Reads};
@@ -68,7 +68,7 @@ pub(crate) fn items_of(
 /// The integer that the item is.
 pub(crate) fn integer_of(item: &Value, bounds: Bounds, spot: Spot) -> Result<u64, ConfigError>
     requires { 0 < bounds.multiple }
-    ensures { Reads (λ n. n) (IsWithin bounds) result
+    ensures { Reads (λ n. n) (IsInBounds bounds) result
         (faults (number bounds) spot (view item.now))
         (number_of (Some (view item.now))) }
 {
@@ -93,7 +93,7 @@ pub(crate) fn integer_at(
     spot: Spot,
 ) -> Result<u64, ConfigError>
     requires { 0 < bounds.multiple }
-    ensures { Reads (λ n. n) (IsWithin bounds) result
+    ensures { Reads (λ n. n) (IsInBounds bounds) result
         (or_shape spot (get_member key.now (table_view table.now)) (faults (number bounds) spot))
         (number_of (get_member key.now (table_view table.now))) }
 {

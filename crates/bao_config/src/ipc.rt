@@ -2,7 +2,7 @@
 ghost use Rattle.std.specs.Prelude.{Some, codes, map};
 ghost use Rattle.toml.specs.Data.{get_member};
 ghost use Rattle.toml.specs.View.{view, table_view};
-ghost use Rattle.bao_config.specs.Bounds.{IsWithin, interrupt};
+ghost use Rattle.bao_config.specs.Bounds.{IsInBounds, interrupt};
 ghost use Rattle.bao_config.specs.Faults.{faults, text, or_shape, or_none};
 ghost use Rattle.bao_config.specs.KeyTable.{irqs, ipc, ipcs, is_window_access};
 ghost use Rattle.bao_config.specs.Spelled.{ipc_of, numbers_of, tables_of, keys_of, may_write, text_of};
@@ -34,7 +34,7 @@ fn read_access(table: &Table, spot: Spot) -> Result<bool, ConfigError>
 
 #[tactic(auto, unfolding(crate::specs::KeyTable::irqs))]
 fn read_irqs(table: &Table, spot: Spot) -> Result<ArrayVec<u16, 8>, ConfigError>
-    ensures { Reads (λ v. v.items) (ListFits 1 8 (IsWithin interrupt)) result
+    ensures { Reads (λ v. v.items) (ListFits 1 8 (IsInBounds interrupt)) result
         (or_shape spot (get_member (codes "irqs") (table_view table.now)) (faults irqs spot))
         (numbers_of (get_member (codes "irqs") (table_view table.now))) }
 {

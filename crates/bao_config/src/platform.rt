@@ -2,7 +2,7 @@
 ghost use Rattle.std.specs.Prelude.{Some, codes};
 ghost use Rattle.toml.specs.Data.{get_member};
 ghost use Rattle.toml.specs.View.{view, table_view};
-ghost use Rattle.bao_config.specs.Bounds.{IsWithin, entries};
+ghost use Rattle.bao_config.specs.Bounds.{IsInBounds, entries};
 ghost use Rattle.bao_config.specs.Faults.{faults, or_shape, or_none};
 ghost use Rattle.bao_config.specs.KeyTable.{banks, platform_cores, port, ports, platform};
 ghost use Rattle.bao_config.specs.Spelled.{range_of, port_of, platform_of, numbers_of, tables_of, keys_of};
@@ -36,7 +36,7 @@ fn read_banks(table: &Table, spot: Spot) -> Result<ArrayVec<ByteRange, 8>, Confi
 
 #[tactic(auto, unfolding(crate::specs::KeyTable::platform_cores))]
 fn read_cores(table: &Table, spot: Spot) -> Result<ArrayVec<u8, 8>, ConfigError>
-    ensures { Reads (λ v. v.items) (ListFits 1 8 (IsWithin entries)) result
+    ensures { Reads (λ v. v.items) (ListFits 1 8 (IsInBounds entries)) result
         (or_shape spot (get_member (codes "cores") (table_view table.now)) (faults platform_cores spot))
         (numbers_of (get_member (codes "cores") (table_view table.now))) }
 {

@@ -3,7 +3,7 @@ ghost use Rattle.std.specs.Prelude.{◌≡◌, Some, IsTrue, codes, map};
 ghost use Rattle.std.specs.List.{list_all};
 ghost use Rattle.toml.specs.Data.{get_member};
 ghost use Rattle.toml.specs.View.{view, table_view};
-ghost use Rattle.bao_config.specs.Bounds.{IsWithin, core};
+ghost use Rattle.bao_config.specs.Bounds.{IsInBounds, core};
 ghost use Rattle.bao_config.specs.Faults.{faults, text, or_shape, or_none};
 ghost use Rattle.bao_config.specs.KeyTable.{is_name_byte, is_name, is_file_name, vm_cores, guards, vm, vms};
 ghost use Rattle.bao_config.specs.Spelled.{range_of, vm_of, numbers_of, tables_of, keys_of, text_of};
@@ -73,7 +73,7 @@ fn read_image(alloc: Global, table: &Table, spot: Spot) -> Result<Label, ConfigE
 
 #[tactic(auto, unfolding(crate::specs::KeyTable::vm_cores))]
 fn read_cores(table: &Table, spot: Spot) -> Result<ArrayVec<u8, 8>, ConfigError>
-    ensures { Reads (λ v. v.items) (ListFits 1 8 (IsWithin core)) result
+    ensures { Reads (λ v. v.items) (ListFits 1 8 (IsInBounds core)) result
         (or_shape spot (get_member (codes "cores") (table_view table.now)) (faults vm_cores spot))
         (numbers_of (get_member (codes "cores") (table_view table.now))) }
 {

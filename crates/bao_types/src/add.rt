@@ -25,13 +25,13 @@ fn sum(half: u64, x: u64, y: u64, carry: bool) -> Sum
     ensures { result ≡ sum_of half x y (if carry then 1 else 0) }
 {
     let carry = u64::from(carry);
-    let total = x as u128 + y as u128 + carry as u128;
-    let value = remainder(total, 2 * half as u128);
+    let total = u128::from(x) + u128::from(y) + u128::from(carry);
+    let value = remainder(total, 2 * u128::from(half));
     Sum {
         value,
         n: value >= half,
         z: value == 0,
-        c: value as u128 != total,
+        c: u128::from(value) != total,
         v: overflows(half, x, y, carry, value),
     }
 }

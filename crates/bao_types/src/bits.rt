@@ -8,6 +8,6 @@ pub fn field(word: u32, high: u32, low: u32) -> u32
     requires bound { high ≤ 31 }
     ensures { result ≡ field word high low }
 {
-    let above_low = word as u64 / (1 << low);
+    let above_low = u64::from(word) / (1 << low);
     (above_low % (1 << (high + 1 - low))) as u32
 }

@@ -18,12 +18,20 @@ IsFetched held name limit (Err TooLong) = IfTold held name (λ content. IsSomeAn
 IsFetched held name limit (Err Failed) = ⊤
 IsFetched held name limit (Err OutOfMemory) = ⊤
 
+-- how often a fetch has failed, and the name in the last one that did
+pub record Blame : Type 0 where
+  pub faults : ℕ
+  pub culprit : List ℕ
+
+abbrev pub IsSameBlame : Blame → Blame → Type 0
+IsSameBlame old new = (new.faults ≡ old.faults) × (new.culprit ≡ old.culprit)
+
 -- a failure is counted and keeps the name; any other answer leaves count and name
-abbrev pub Blames : {T : Type 0} → ℕ → ℕ → List ℕ → List ℕ → List ℕ → Result T ShelfError → Type 0
-Blames before now old new name (Ok _) = (now ≡ before) × (new ≡ old)
-Blames before now old new name (Err TooLong) = (now ≡ before) × (new ≡ old)
-Blames before now old new name (Err Failed) = (now ≡ risen before) × (new ≡ name)
-Blames before now old new name (Err OutOfMemory) = (now ≡ before) × (new ≡ old)
+abbrev pub Blames : {T : Type 0} → Blame → Blame → List ℕ → Result T ShelfError → Type 0
+Blames old new name (Ok _) = IsSameBlame old new
+Blames old new name (Err TooLong) = IsSameBlame old new
+Blames old new name (Err Failed) = (new.faults ≡ risen old.faults) × (new.culprit ≡ name)
+Blames old new name (Err OutOfMemory) = IsSameBlame old new
 
 -- how an error is shown
 abbrev pub error_text : ShelfError → List ℕ

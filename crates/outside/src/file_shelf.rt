@@ -118,7 +118,7 @@ impl<O: Open> Shelf for FileShelf<O> {
     }
 }
 
-/// Opens and reads a file.
+/// Opens and reads a file, of which it reads at most `limit + 1` bytes.
 fn read_file<O: Open>(
     opener: &O,
     alloc: Global,

@@ -1,5 +1,6 @@
 ghost use Rattle.std.specs.Prelude.{◌≡◌, Option, List, ℕ, [], IsOk, IsSome, true, false};
 ghost use Rattle.outside.specs.OutSink.{WritesWhole, told_bytes};
+ghost use Rattle.outside.specs.Sink.{HasCause, Takes};
 
 use crate::{Sink, SinkFailed};
 use std::io::Write;
@@ -70,7 +71,14 @@ impl<W: Write> Sink for OutSink<W> {
     ghost faults = { λ s. s.faults };
 
     #[tactic(auto, using(crate::proofs::WriterLemmas::told_grows, crate::proofs::WriterLemmas::told_grows_part))]
-    fn put(&mut self, bytes: &[u8]) -> Result<(), SinkFailed> {
+    fn put(&mut self, bytes: &[u8]) -> Result<(), SinkFailed>
+        // Of the writer, whether or not the sink tells of it.
+        ensures writes { WritesWhole (W.contents self.old.writer) (W.contents self.new.writer) bytes.now result }
+        ensures taken { Takes (told_bytes self.old.tells (W.contents self.old.writer))
+            (told_bytes self.new.tells (W.contents self.new.writer)) bytes.now result }
+        ensures cause { HasCause self.old.faults self.new.faults result }
+        ensures empty { bytes.now ≡ [] → IsOk result }
+    {
         match write_whole(&mut self.writer, bytes) {
             Ok(()) => Ok(()),
             Err(SinkFailed) => {

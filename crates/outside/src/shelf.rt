@@ -23,8 +23,8 @@ pub trait Shelf {
     fn fetch(&mut self, alloc: Global, name: &str, limit: u32) -> Result<Vec<u8>, ShelfError>
         ensures held { held self.new ≡ held self.old }
         ensures content { IsFetched (held self.old) name.now limit result }
-        ensures cause { Blames (faults self.old) (faults self.new) (culprit self.old) (culprit self.new)
-            name.now result };
+        ensures cause { Blames (record { faults = faults self.old; culprit = culprit self.old })
+            (record { faults = faults self.new; culprit = culprit self.new }) name.now result };
 }
 
 /// Why a file wasn't fetched.

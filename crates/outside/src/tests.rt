@@ -25,21 +25,37 @@ fn two_files(alloc: Global) -> Result<(Vec<String>, Vec<Vec<u8>>), Fail>
     Ok((names, contents))
 }
 
-/// Fetches through the trait, as callers do, and compares the answer.
-fn expect_fetch<S: Shelf>(
-    rt: &impl Abort,
-    alloc: Global,
+/// Fails the test where what is asked doesn't hold.
+fn check(rt: &impl Abort, holds: bool, shows: &str) {
+    assert!(rt; holds, "{shows}");
+}
+
+/// Fetches through the trait, as callers do, and tells whether the answer is the one that is wanted.
+fn answers<S: Shelf>(
     shelf: &mut S,
+    alloc: Global,
     name: &str,
     limit: u32,
     wanted: Result<&[u8], ShelfError>,
-) {
+) -> bool {
     match (shelf.fetch(alloc, name, limit), wanted) {
-        (Ok(file), Ok(bytes)) => assert_eq!(rt; file.as_slice(), bytes),
-        (Err(error), Err(other)) => assert_eq!(rt; error, other),
-        _ => assert!(rt; false, "{name}"),
+        (Ok(file), Ok(bytes)) => file.as_slice() == bytes,
+        (Err(error), Err(other)) => error == other,
+        _ => false,
     }
 }
+
+#[rattlefmt::skip]
+static FETCHES: [(&str, &str, u32, Result<&[u8], ShelfError>, u64, &str); 7] = [
+    // shows                     name limit answer                       faults culprit
+    ("at the limit",             "b", 4,    Ok(b"four"),                 0,     ""),
+    ("a call that is listed",    "b", 4,    Err(ShelfError::Failed),     1,     "b"),
+    ("the call after it",        "b", 4,    Ok(b"four"),                 1,     "b"),
+    ("above the limit",          "b", 3,    Err(ShelfError::TooLong),    1,     "b"),
+    ("empty, within no bytes",   "a", 0,    Ok(b""),                     1,     "b"),
+    ("a name that isn't held",   "c", 4,    Err(ShelfError::Failed),     2,     "c"),
+    ("listed and above",         "b", 3,    Err(ShelfError::Failed),     3,     "b"),
+];
 
 #[test]
 fn mem_shelf(rt: HostRuntime) -> Result<(), Fail> {
@@ -47,65 +63,76 @@ fn mem_shelf(rt: HostRuntime) -> Result<(), Fail> {
     let (names, contents) = two_files(alloc)?;
     let failing = [2, 7].to_vec(alloc)?;
     let mut shelf = MemShelf::new(alloc, names, contents, failing);
-    assert_eq!(rt;
-        (shelf.calls(), shelf.faults(), shelf.culprit()),
-        (0, 0, "")
+    check(
+        &rt,
+        (shelf.calls(), shelf.faults(), shelf.culprit()) == (0, 0, ""),
+        "at first",
     );
-
-    #[rattlefmt::skip]
-    const ROWS: [(&str, &str, u32, Result<&[u8], ShelfError>, u64, &str); 7] = [
-        // shows                     name limit answer                       faults culprit
-        ("at the limit",             "b", 4,    Ok(b"four"),                 0,     ""),
-        ("a call that is listed",    "b", 4,    Err(ShelfError::Failed),     1,     "b"),
-        ("the call behind it",       "b", 4,    Ok(b"four"),                 1,     "b"),
-        ("above the limit",          "b", 3,    Err(ShelfError::TooLong),    1,     "b"),
-        ("empty, within no bytes",   "a", 0,    Ok(b""),                     1,     "b"),
-        ("a name that isn't held",   "c", 4,    Err(ShelfError::Failed),     2,     "c"),
-        ("listed and above",         "b", 3,    Err(ShelfError::Failed),     3,     "b"),
-    ];
-    for (shows, name, limit, answer, faults, culprit) in ROWS {
-        expect_fetch(&rt, alloc, &mut shelf, name, limit, answer);
-        assert_eq!(rt; shelf.faults(), faults, "{shows}");
-        assert_eq!(rt; shelf.culprit(), culprit, "{shows}");
+    for (shows, name, limit, answer, faults, culprit) in FETCHES.as_slice() {
+        check(
+            &rt,
+            answers(&mut shelf, alloc, name, *limit, *answer),
+            shows,
+        );
+        check(
+            &rt,
+            (shelf.faults(), shelf.culprit()) == (*faults, *culprit),
+            shows,
+        );
     }
-    assert_eq!(rt; shelf.calls(), 7);
+    check(&rt, shelf.calls() == 7, "calls");
     Ok(())
 }
+
+#[rattlefmt::skip]
+static SURE_FETCHES: [(&str, &str, u32, Result<&[u8], ShelfError>); 3] = [
+    // shows            name limit answer
+    ("at the limit",    "b", 4,    Ok(b"four")),
+    ("above the limit", "b", 3,    Err(ShelfError::TooLong)),
+    ("a missing name",  "c", 0,    Ok(b"")),
+];
 
 #[test]
 fn sure_shelf(rt: HostRuntime) -> Result<(), Fail> {
     let alloc = rt.alloc();
     let (names, contents) = two_files(alloc)?;
     let mut shelf = SureShelf::new(alloc, names, contents);
-    expect_fetch(&rt, alloc, &mut shelf, "b", 4, Ok(b"four"));
-    expect_fetch(&rt, alloc, &mut shelf, "b", 3, Err(ShelfError::TooLong));
-    expect_fetch(&rt, alloc, &mut shelf, "c", 0, Ok(b""));
+    for (shows, name, limit, answer) in SURE_FETCHES.as_slice() {
+        check(
+            &rt,
+            answers(&mut shelf, alloc, name, *limit, *answer),
+            shows,
+        );
+    }
     Ok(())
 }
+
+#[rattlefmt::skip]
+static PUTS: [(&str, &[u8], Result<(), SinkFailed>, &[u8], u64); 8] = [
+    // shows                        bytes     answer           taken     faults
+    ("some of the room",            b"abc",   Ok(()),          b"abc",   0),
+    ("a call that is listed",       b"d",     Err(SinkFailed), b"abc",   1),
+    ("listed, but of no bytes",     b"",      Ok(()),          b"abc",   1),
+    ("more than is left",           b"def",   Err(SinkFailed), b"abc",   2),
+    ("less than was refused",       b"d",     Ok(()),          b"abcd",  2),
+    ("all that is left",            b"e",     Ok(()),          b"abcde", 2),
+    ("no bytes where none is left", b"",      Ok(()),          b"abcde", 2),
+    ("one byte where none is left", b"f",     Err(SinkFailed), b"abcde", 3),
+];
 
 #[test]
 fn mem_sink(rt: HostRuntime) -> Result<(), Fail> {
     let alloc = rt.alloc();
     let mut sink = MemSink::new(alloc, 5, [2, 3].to_vec(alloc)?)?;
-
-    #[rattlefmt::skip]
-    const ROWS: [(&str, &[u8], Result<(), SinkFailed>, &[u8], u64); 8] = [
-        // shows                        bytes     answer           taken     faults
-        ("some of the room",            b"abc",   Ok(()),          b"abc",   0),
-        ("a call that is listed",       b"d",     Err(SinkFailed), b"abc",   1),
-        ("listed, but of no bytes",     b"",      Ok(()),          b"abc",   1),
-        ("more than is left",           b"def",   Err(SinkFailed), b"abc",   2),
-        ("less than was refused",       b"d",     Ok(()),          b"abcd",  2),
-        ("all that is left",            b"e",     Ok(()),          b"abcde", 2),
-        ("no bytes where none is left", b"",      Ok(()),          b"abcde", 2),
-        ("one byte where none is left", b"f",     Err(SinkFailed), b"abcde", 3),
-    ];
-    for (shows, bytes, answer, taken, faults) in ROWS {
-        assert_eq!(rt; put(&mut sink, bytes), answer, "{shows}");
-        assert_eq!(rt; sink.taken(), taken, "{shows}");
-        assert_eq!(rt; sink.faults(), faults, "{shows}");
+    for (shows, bytes, answer, taken, faults) in PUTS.as_slice() {
+        check(&rt, put(&mut sink, bytes) == *answer, shows);
+        check(
+            &rt,
+            sink.taken() == *taken && sink.faults() == *faults,
+            shows,
+        );
     }
-    assert_eq!(rt; sink.calls(), 8);
+    check(&rt, sink.calls() == 8, "calls");
     Ok(())
 }
 
@@ -164,67 +191,73 @@ impl Open for Folder {
     }
 }
 
+#[rattlefmt::skip]
+static DRIPS: [(&str, &[u8], usize, &str, u32, Result<&[u8], ShelfError>); 8] = [
+    // shows                            content  reads name limit answer
+    ("the last read finds the end",     b"four", 5,    "b", 4,    Ok(b"four")),
+    ("that read fails",                 b"four", 4,    "b", 4,    Err(ShelfError::Failed)),
+    ("the first read fails",            b"four", 0,    "b", 4,    Err(ShelfError::Failed)),
+    ("one byte above the limit",        b"four", 4,    "b", 3,    Err(ShelfError::TooLong)),
+    ("nothing is read after that byte", b"four", 1,    "b", 0,    Err(ShelfError::TooLong)),
+    ("nor of a longer file",            b"longer", 3,  "b", 2,    Err(ShelfError::TooLong)),
+    ("empty, within no bytes",          b"",     1,    "b", 0,    Ok(b"")),
+    ("a file that can't be opened",     b"four", 5,    "",  4,    Err(ShelfError::Failed)),
+];
+
 #[test]
 fn files_that_drip(rt: HostRuntime) -> Result<(), Fail> {
-    #[rattlefmt::skip]
-    const ROWS: [(&str, &[u8], usize, &str, u32, Result<&[u8], ShelfError>); 7] = [
-        // shows                             content  reads name limit answer
-        ("the last read finds the end",      b"four", 5,    "b", 4,    Ok(b"four")),
-        ("that read fails",                  b"four", 4,    "b", 4,    Err(ShelfError::Failed)),
-        ("the first read fails",             b"four", 0,    "b", 4,    Err(ShelfError::Failed)),
-        ("one byte above the limit",         b"four", 5,    "b", 3,    Err(ShelfError::TooLong)),
-        ("nothing is read behind that byte", b"four", 1,    "b", 0,    Err(ShelfError::TooLong)),
-        ("empty, within no bytes",           b"",     1,    "b", 0,    Ok(b"")),
-        ("a file that can't be opened",      b"four", 5,    "",  4,    Err(ShelfError::Failed)),
-    ];
     let alloc = rt.alloc();
-    for (shows, bytes, reads, name, limit, answer) in ROWS {
+    for (shows, bytes, reads, name, limit, answer) in DRIPS.as_slice() {
         let bytes = bytes.to_vec(alloc)?;
-        let mut shelf = FileShelf::new(
+        let reads = *reads;
+        let folder = Folder {
             alloc,
-            Folder {
-                alloc,
-                bytes,
-                reads,
-            },
+            bytes,
+            reads,
+        };
+        let mut shelf = FileShelf::new(alloc, folder);
+        check(
+            &rt,
+            answers(&mut shelf, alloc, name, *limit, *answer),
+            shows,
         );
-        expect_fetch(&rt, alloc, &mut shelf, name, limit, answer);
         let failed = matches!(answer, Err(ShelfError::Failed));
-        assert_eq!(rt; shelf.faults(), if failed { 1 } else { 0 }, "{shows}");
-        assert_eq!(rt; shelf.culprit(), if failed { name } else { "" }, "{shows}");
+        let blame = if failed { (1, *name) } else { (0, "") };
+        check(&rt, (shelf.faults(), shelf.culprit()) == blame, shows);
     }
     Ok(())
 }
 
+#[rattlefmt::skip]
+static FILES: [(&str, &str, u32, Result<&[u8], ShelfError>, u64, &str); 5] = [
+    // shows                            name                limit answer                    faults culprit
+    ("a file",                          "outside-one.txt",  4,    Ok(b"real"),              0,     ""),
+    ("another",                         "outside-two.txt",  4,    Ok(b"two"),               0,     ""),
+    ("above the limit",                 "outside-one.txt",  3,    Err(ShelfError::TooLong), 0,     ""),
+    ("a missing file",                  "no-such-file.txt", 4,    Err(ShelfError::Failed),  1,     "no-such-file.txt"),
+    ("a directory opens, but no read",  ".",                4,    Err(ShelfError::Failed),  2,     "."),
+];
+
 #[test]
 fn real_files(rt: HostRuntime) -> Result<(), Fail> {
     let alloc = rt.alloc();
-    fs::write(&rt, "outside-test.txt", "real")?;
+    fs::write(&rt, "outside-one.txt", "real")?;
+    fs::write(&rt, "outside-two.txt", "two")?;
     let mut shelf = FileShelf::new(alloc, WorkingDirectory::new(&rt));
-    expect_fetch(&rt, alloc, &mut shelf, "outside-test.txt", 4, Ok(b"real"));
-    expect_fetch(
-        &rt,
-        alloc,
-        &mut shelf,
-        "outside-test.txt",
-        3,
-        Err(ShelfError::TooLong),
-    );
-    assert_eq!(rt; (shelf.faults(), shelf.culprit()), (0, ""));
-
-    expect_fetch(
-        &rt,
-        alloc,
-        &mut shelf,
-        "no-such-file.txt",
-        4,
-        Err(ShelfError::Failed),
-    );
-    assert_eq!(rt; (shelf.faults(), shelf.culprit()), (1, "no-such-file.txt"));
-    // A directory is opened, but not read.
-    expect_fetch(&rt, alloc, &mut shelf, ".", 4, Err(ShelfError::Failed));
-    assert_eq!(rt; (shelf.faults(), shelf.culprit()), (2, "."));
-    fs::remove_file(&rt, "outside-test.txt")?;
+    for (shows, name, limit, answer, faults, culprit) in FILES.as_slice() {
+        check(
+            &rt,
+            answers(&mut shelf, alloc, name, *limit, *answer),
+            shows,
+        );
+        check(
+            &rt,
+            (shelf.faults(), shelf.culprit()) == (*faults, *culprit),
+            shows,
+        );
+    }
+    fs::remove_file(&rt, "outside-one.txt")?;
+    fs::remove_file(&rt, "outside-two.txt")?;
     Ok(())
 }
 
@@ -255,50 +288,65 @@ impl Write for Trickle {
     }
 }
 
+#[rattlefmt::skip]
+static TRICKLES: [(&str, &[u8], Result<(), SinkFailed>, &[u8], u64); 4] = [
+    // shows                    bytes   answer           taken     faults
+    ("a byte at a time",        b"abc", Ok(()),          b"abc",   0),
+    ("the last isn't taken",     b"def", Err(SinkFailed), b"abcde", 1),
+    ("no bytes",                b"",    Ok(()),          b"abcde", 1),
+    ("nothing more",            b"g",   Err(SinkFailed), b"abcde", 2),
+];
+
 #[test]
 fn a_writer_that_trickles(rt: HostRuntime) -> Result<(), Fail> {
-    let alloc = rt.alloc();
     for fails in [false, true] {
-        let mut sink = OutSink::telling(Trickle {
-            taken: Vec::new(alloc),
-            room: 5,
-            fails,
-        });
-        assert_eq!(rt; put(&mut sink, b"abc"), Ok(()));
-        assert_eq!(rt; sink.faults(), 0);
-        assert_eq!(rt; put(&mut sink, b"def"), Err(SinkFailed));
-        assert_eq!(rt; sink.faults(), 1);
-        assert_eq!(rt; sink.writer().taken.as_slice(), b"abcde".as_slice());
-        assert_eq!(rt; put(&mut sink, b""), Ok(()));
-        assert_eq!(rt; put(&mut sink, b"g"), Err(SinkFailed));
-        assert_eq!(rt; sink.faults(), 2);
+        trickles_alike(&rt, rt.alloc(), fails, true);
+        trickles_alike(&rt, rt.alloc(), fails, false);
     }
     Ok(())
+}
+
+/// The same is written whether or not the sink tells of it.
+fn trickles_alike(rt: &impl Abort, alloc: Global, fails: bool, tells: bool) {
+    let writer = Trickle {
+        taken: Vec::new(alloc),
+        room: 5,
+        fails,
+    };
+    let mut sink = if tells {
+        OutSink::telling(writer)
+    } else {
+        OutSink::new(writer)
+    };
+    for (shows, bytes, answer, taken, faults) in TRICKLES.as_slice() {
+        check(rt, put(&mut sink, bytes) == *answer, shows);
+        let written = sink.writer().taken.as_slice();
+        check(rt, written == *taken && sink.faults() == *faults, shows);
+    }
 }
 
 #[test]
 fn standard_output(rt: HostRuntime) {
     let mut sink = OutSink::new(io::writer(&rt));
-    assert_eq!(rt; put(&mut sink, b"put to standard output\n"), Ok(()));
-    assert_eq!(rt; sink.faults(), 0);
+    let answer = put(&mut sink, b"put to standard output\n");
+    check(&rt, answer == Ok(()) && sink.faults() == 0, "a line");
 }
 
 #[test]
 fn error_texts(rt: HostRuntime) -> Result<(), Fail> {
     let alloc = rt.alloc();
-    assert_eq!(rt;
-        ShelfError::TooLong.to_string(alloc)?.as_str(),
-        "file too long"
+    let texts = format!(in alloc;
+        "{}, {}, {}, {}",
+        ShelfError::TooLong,
+        ShelfError::Failed,
+        ShelfError::OutOfMemory,
+        SinkFailed
+    )?;
+    check(
+        &rt,
+        texts.as_str() == "file too long, file not read, out of memory, text not taken",
+        "the texts",
     );
-    assert_eq!(rt;
-        ShelfError::Failed.to_string(alloc)?.as_str(),
-        "file not read"
-    );
-    assert_eq!(rt;
-        ShelfError::OutOfMemory.to_string(alloc)?.as_str(),
-        "out of memory"
-    );
-    assert_eq!(rt; SinkFailed.to_string(alloc)?.as_str(), "text not taken");
     Ok(())
 }
 
@@ -329,32 +377,29 @@ fn put_all<K: Sink>(sink: &mut K, texts: &[Vec<u8>]) -> Result<(), SinkFailed>
     Ok(())
 }
 
+#[rattlefmt::skip]
+static PARTS: [(&str, u32, Result<(), SinkFailed>, &[u8]); 4] = [
+    // shows                 failing call  answer           taken
+    ("no call fails",        9,            Ok(()),          b"abbccc"),
+    ("the third part fails", 3,            Err(SinkFailed), b"abb"),
+    ("the second",           2,            Err(SinkFailed), b"a"),
+    ("the first",            1,            Err(SinkFailed), b""),
+];
+
 #[test]
 fn texts_in_parts(rt: HostRuntime) -> Result<(), Fail> {
-    #[rattlefmt::skip]
-    const ROWS: [(&str, u32, Result<(), SinkFailed>, &[u8]); 4] = [
-        // shows                 failing call  answer           taken
-        ("no call fails",        9,            Ok(()),          b"abbccc"),
-        ("the third part fails", 3,            Err(SinkFailed), b"abb"),
-        ("the second",           2,            Err(SinkFailed), b"a"),
-        ("the first",            1,            Err(SinkFailed), b""),
-    ];
     let alloc = rt.alloc();
     let mut texts = Vec::new(alloc);
     texts.push(b"a".to_vec(alloc)?)?;
     texts.push(b"bb".to_vec(alloc)?)?;
     texts.push(b"ccc".to_vec(alloc)?)?;
-    for (shows, failing, answer, taken) in ROWS {
-        let mut sink = MemSink::new(alloc, 6, [failing].to_vec(alloc)?)?;
-        assert_eq!(rt;
-            put_three(&mut sink, b"a", b"bb", b"ccc"),
-            answer,
-            "{shows}"
-        );
-        assert_eq!(rt; sink.taken(), taken, "{shows}");
-        let mut sink = MemSink::new(alloc, 6, [failing].to_vec(alloc)?)?;
-        assert_eq!(rt; put_all(&mut sink, &texts), answer, "{shows}");
-        assert_eq!(rt; sink.taken(), taken, "{shows}");
+    for (shows, failing, answer, taken) in PARTS.as_slice() {
+        let mut sink = MemSink::new(alloc, 6, [*failing].to_vec(alloc)?)?;
+        let one = put_three(&mut sink, b"a", b"bb", b"ccc");
+        check(&rt, one == *answer && sink.taken() == *taken, shows);
+        let mut sink = MemSink::new(alloc, 6, [*failing].to_vec(alloc)?)?;
+        let all = put_all(&mut sink, &texts);
+        check(&rt, all == *answer && sink.taken() == *taken, shows);
     }
     Ok(())
 }

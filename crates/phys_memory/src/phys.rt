@@ -1,6 +1,6 @@
 //! `Phys` and its calls. A clause sees a block as the list of its bytes.
-ghost use Rattle.std.specs.Prelude.{◌≡◌, ℕ, ◌+◌, ◌<◌, ◌≤◌, ◌⊎◌, ◌++◌, length, take, drop, slice_index, slice_set, slice_range, IfOk};
-ghost use Rattle.bao_types.specs.Bytes.{little_endian, low_bytes};
+ghost use Rattle.std.specs.Prelude.{◌≡◌, ℕ, ◌+◌, ◌<◌, ◌≤◌, ◌++◌, length, take, drop, slice_index, slice_set, slice_range, IfOk};
+ghost use Rattle.bao_types.specs.Bytes.{IsWidth, little_endian, low_bytes};
 
 use crate::block::{allocate, deallocate};
 use crate::cells::{Base, Cells, Deed};
@@ -89,7 +89,7 @@ impl Phys {
 
     /// The `width` bytes from `at` on, as a number whose least byte comes first.
     pub fn read_le(&self, at: u64, width: u32) -> u64
-        requires width { (width ≡ 1) ⊎ (width ≡ 2) ⊎ (width ≡ 4) ⊎ (width ≡ 8) }
+        requires width { IsWidth width }
         requires range { at + width ≤ length self.now }
         ensures { result ≡ little_endian (slice_range self.now at (at + width)) }
     {
@@ -104,7 +104,7 @@ impl Phys {
 
     /// Puts the lowest `width` bytes of the value at `at`, the least byte first. All other bytes stay.
     pub fn write_le(&mut self, at: u64, width: u32, value: u64)
-        requires width { (width ≡ 1) ⊎ (width ≡ 2) ⊎ (width ≡ 4) ⊎ (width ≡ 8) }
+        requires width { IsWidth width }
         requires range { at + width ≤ length self.old }
         ensures { self.new ≡ take at self.old ++ low_bytes width value ++ drop (at + width) self.old }
     {

@@ -1,4 +1,5 @@
-ghost use Rattle.std.specs.Prelude.{◌≡◌, ◌+◌, ◌≤◌, ◌⊎◌, length};
+ghost use Rattle.std.specs.Prelude.{◌≡◌, ◌+◌, ◌≤◌, length};
+ghost use Rattle.bao_types.specs.Bytes.{IsWidth};
 
 use crate::Phys;
 use bao_types::OutOfMemory;
@@ -17,7 +18,7 @@ fn bytes(block: &Phys) -> [u8; 16]
 
 /// A number written into a block of 16 bytes 0xee, and then read: the bytes and the number.
 fn written(alloc: Global, at: u64, width: u32) -> Result<([u8; 16], u64), OutOfMemory>
-    requires width { (width ≡ 1) ⊎ (width ≡ 2) ⊎ (width ≡ 4) ⊎ (width ≡ 8) }
+    requires width { IsWidth width }
     requires range { at + width ≤ 16 }
 {
     let mut block = Phys::new(alloc, 16)?;

@@ -1,6 +1,7 @@
 use crate::judge1;
 use bao_types::{Access, Region, RegionFile, Verdict};
 use pmsa_regs::{write_base, write_limit, write_select};
+use std::process::Abort;
 
 /// SCTLR_EL1 with M, and with M and BR.
 const ON: u64 = 0x1;
@@ -28,7 +29,7 @@ const REFUSED: Verdict = Verdict::Permission;
 const ALLOWED: Verdict = Verdict::Allow;
 
 #[rattlefmt::skip]
-const PERMISSIONS: [(&str, u8, u8, u8, Verdict, Verdict, Verdict); 16] = [
+static PERMISSIONS: [(&str, u8, u8, u8, Verdict, Verdict, Verdict); 16] = [
     // shows                    level  AP    XN  read     write    execute
     ("EL1 alone",               1,     0b00, 0,  ALLOWED, ALLOWED, ALLOWED),
     ("EL1 alone, XN",           1,     0b00, 1,  ALLOWED, ALLOWED, REFUSED),
@@ -48,29 +49,25 @@ const PERMISSIONS: [(&str, u8, u8, u8, Verdict, Verdict, Verdict); 16] = [
     ("EL0: both, read, XN",     0,     0b11, 1,  ALLOWED, REFUSED, REFUSED),
 ];
 
+/// Fails the test where the verdicts aren't those that are wanted.
+fn check(rt: &impl Abort, shows: &str, verdicts: &[Verdict], wanted: &[Verdict]) {
+    assert!(rt; verdicts == wanted, "{shows}");
+}
+
 #[test]
 fn permission_table(rt: HostRuntime) {
-    for (shows, level, permission, execute_never, read, write, execute) in PERMISSIONS {
+    for (shows, level, permission, execute_never, read, write, execute) in PERMISSIONS.as_slice() {
         let region = Region {
-            base: 0x100000 + 4 * permission as u64 + 2 * execute_never as u64,
+            base: 0x100000 + 4 * u64::from(*permission) + 2 * u64::from(*execute_never),
             limit: 0x10ffc1,
         };
         let regs = regions(region, ZERO);
-        assert_eq!(rt;
-            judge1(&regs, ON_WITH_BACKGROUND, level, Access::Read, 0x104000),
-            read,
-            "{shows}"
-        );
-        assert_eq!(rt;
-            judge1(&regs, ON_WITH_BACKGROUND, level, Access::Write, 0x104000),
-            write,
-            "{shows}"
-        );
-        assert_eq!(rt;
-            judge1(&regs, ON_WITH_BACKGROUND, level, Access::Exec, 0x104000),
-            execute,
-            "{shows}"
-        );
+        let verdicts = [
+            judge1(&regs, ON_WITH_BACKGROUND, *level, Access::Read, 0x104000),
+            judge1(&regs, ON_WITH_BACKGROUND, *level, Access::Write, 0x104000),
+            judge1(&regs, ON_WITH_BACKGROUND, *level, Access::Exec, 0x104000),
+        ];
+        check(&rt, shows, &verdicts, &[*read, *write, *execute]);
     }
 }
 
@@ -108,14 +105,14 @@ const ALL: Region = Region {
 const MISSING: Verdict = Verdict::Translation;
 
 #[rattlefmt::skip]
-const REGIONS: [(&str, Region, Region, u64, Verdict, Verdict, Verdict); 14] = [
+static REGIONS: [(&str, Region, Region, u64, Verdict, Verdict, Verdict); 14] = [
     // a read of                    region 0  region 1  byte                   EL1      EL1, BR  EL0, BR
     ("one region's byte",           BOTH,     OFF,      0x104000,              ALLOWED, ALLOWED, ALLOWED),
     ("two regions' byte",           BOTH,     GRANULE,  0x104000,              MISSING, MISSING, MISSING),
     ("two regions' last byte",      BOTH,     GRANULE,  0x10403f,              MISSING, MISSING, MISSING),
-    ("the byte behind the second",  BOTH,     GRANULE,  0x104040,              ALLOWED, ALLOWED, ALLOWED),
+    ("the byte after the second",   BOTH,     GRANULE,  0x104040,              ALLOWED, ALLOWED, ALLOWED),
     ("the last byte",               BOTH,     OFF,      0x10ffff,              ALLOWED, ALLOWED, ALLOWED),
-    ("the byte behind",             BOTH,     OFF,      0x110000,              MISSING, ALLOWED, MISSING),
+    ("the byte after",              BOTH,     OFF,      0x110000,              MISSING, ALLOWED, MISSING),
     ("the byte before",             BOTH,     OFF,      0x0fffff,              MISSING, ALLOWED, MISSING),
     ("a region that is off",        OFF,      OFF,      0x104000,              MISSING, ALLOWED, MISSING),
     ("base above limit",            REVERSED, OFF,      0x110000,              MISSING, ALLOWED, MISSING),
@@ -128,24 +125,20 @@ const REGIONS: [(&str, Region, Region, u64, Verdict, Verdict, Verdict); 14] = [
 
 #[test]
 fn number_of_regions(rt: HostRuntime) {
-    for (shows, first, second, at, el1, el1_background, el0_background) in REGIONS {
-        let regs = regions(first, second);
-        assert_eq!(rt; judge1(&regs, ON, 1, Access::Read, at), el1, "{shows}");
-        assert_eq!(rt;
-            judge1(&regs, ON_WITH_BACKGROUND, 1, Access::Read, at),
-            el1_background,
-            "{shows}"
-        );
-        assert_eq!(rt;
-            judge1(&regs, ON_WITH_BACKGROUND, 0, Access::Read, at),
-            el0_background,
-            "{shows}"
-        );
-        // With M clear all is allowed, BR or not.
-        assert_eq!(rt;
-            judge1(&regs, 0x20000, 0, Access::Write, at),
-            ALLOWED,
-            "{shows}"
+    for (shows, first, second, at, el1, el1_background, el0_background) in REGIONS.as_slice() {
+        let regs = regions(*first, *second);
+        let verdicts = [
+            judge1(&regs, ON, 1, Access::Read, *at),
+            judge1(&regs, ON_WITH_BACKGROUND, 1, Access::Read, *at),
+            judge1(&regs, ON_WITH_BACKGROUND, 0, Access::Read, *at),
+            // With M clear all is allowed, BR or not.
+            judge1(&regs, 0x20000, 0, Access::Write, *at),
+        ];
+        check(
+            &rt,
+            shows,
+            &verdicts,
+            &[*el1, *el1_background, *el0_background, ALLOWED],
         );
     }
 }

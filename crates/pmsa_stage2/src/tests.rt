@@ -1,5 +1,6 @@
 use crate::judge2;
 use bao_types::{Access, Region, Verdict};
+use std::process::Abort;
 
 /// The bytes 0x100000 to 0x10ffff, with this AP and XN.
 const fn entry(permission: u8, execute_never: u8) -> Region {
@@ -9,31 +10,43 @@ const fn entry(permission: u8, execute_never: u8) -> Region {
     }
 }
 
+const REFUSED: Verdict = Verdict::Permission;
+
+const ALLOWED: Verdict = Verdict::Allow;
+
+#[rattlefmt::skip]
+static PERMISSIONS: [(&str, u8, u8, Verdict, Verdict, Verdict); 8] = [
+    // shows                    AP    XN  read     write    execute
+    ("EL2 alone",               0b00, 0,  REFUSED, REFUSED, REFUSED),
+    ("EL2 alone, XN",           0b00, 1,  REFUSED, REFUSED, REFUSED),
+    ("read and write",          0b01, 0,  ALLOWED, ALLOWED, ALLOWED),
+    ("read and write, XN",      0b01, 1,  ALLOWED, ALLOWED, REFUSED),
+    ("EL2 alone, read",         0b10, 0,  REFUSED, REFUSED, REFUSED),
+    ("EL2 alone, read, XN",     0b10, 1,  REFUSED, REFUSED, REFUSED),
+    ("read",                    0b11, 0,  ALLOWED, REFUSED, ALLOWED),
+    ("read, XN",                0b11, 1,  ALLOWED, REFUSED, REFUSED),
+];
+
+/// Fails the test where the verdicts aren't those that are wanted.
+fn check(rt: &impl Abort, shows: &str, verdicts: &[Verdict], wanted: &[Verdict]) {
+    assert!(rt; verdicts == wanted, "{shows}");
+}
+
+/// The verdicts on reading, writing and executing a byte.
+fn verdicts(entries: &[Region], at: u64) -> [Verdict; 3] {
+    [
+        judge2(entries, Access::Read, at),
+        judge2(entries, Access::Write, at),
+        judge2(entries, Access::Exec, at),
+    ]
+}
+
 #[test]
 fn permission_table(rt: HostRuntime) {
-    const REFUSED: Verdict = Verdict::Permission;
-    const ALLOWED: Verdict = Verdict::Allow;
-    #[rattlefmt::skip]
-    const ROWS: [(&str, u8, u8, Verdict, Verdict, Verdict); 8] = [
-        // shows                    AP    XN  read     write    execute
-        ("EL2 alone",               0b00, 0,  REFUSED, REFUSED, REFUSED),
-        ("EL2 alone, XN",           0b00, 1,  REFUSED, REFUSED, REFUSED),
-        ("read and write",          0b01, 0,  ALLOWED, ALLOWED, ALLOWED),
-        ("read and write, XN",      0b01, 1,  ALLOWED, ALLOWED, REFUSED),
-        ("EL2 alone, read",         0b10, 0,  REFUSED, REFUSED, REFUSED),
-        ("EL2 alone, read, XN",     0b10, 1,  REFUSED, REFUSED, REFUSED),
-        ("read",                    0b11, 0,  ALLOWED, REFUSED, ALLOWED),
-        ("read, XN",                0b11, 1,  ALLOWED, REFUSED, REFUSED),
-    ];
-    for (shows, permission, execute_never, read, write, execute) in ROWS {
-        let entries = [entry(permission, execute_never)];
-        assert_eq!(rt; judge2(&entries, Access::Read, 0x104000), read, "{shows}");
-        assert_eq!(rt; judge2(&entries, Access::Write, 0x104000), write, "{shows}");
-        assert_eq!(rt;
-            judge2(&entries, Access::Exec, 0x104000),
-            execute,
-            "{shows}"
-        );
+    for (shows, permission, execute_never, read, write, execute) in PERMISSIONS.as_slice() {
+        let entries = [entry(*permission, *execute_never)];
+        let wanted = [*read, *write, *execute];
+        check(&rt, shows, &verdicts(&entries, 0x104000), &wanted);
     }
 }
 
@@ -74,12 +87,12 @@ const REVERSED: Region = Region {
 };
 
 #[rattlefmt::skip]
-const ENTRIES: [(&str, [Region; 2], u64, Verdict); 16] = [
+static ENTRIES: [(&str, [Region; 2], u64, Verdict); 16] = [
     // shows                        entries             byte                   verdict of a read
     ("the first byte",              [GUEST, NEXT],      0x100000,              Verdict::Allow),
     ("the byte before",             [GUEST, NEXT],      0x0f_ffff,             Verdict::Translation),
     ("the limit granule's last",    [GUEST, OFF],       0x10_ffff,             Verdict::Allow),
-    ("the byte behind",             [GUEST, OFF],       0x11_0000,             Verdict::Translation),
+    ("the byte after",              [GUEST, OFF],       0x11_0000,             Verdict::Translation),
     ("the neighbour",               [GUEST, NEXT],      0x11_0000,             Verdict::Allow),
     ("an entry that is off",        [OFF, OFF],         0x100000,              Verdict::Translation),
     ("two entries",                 [GUEST, GRANULE],   0x108000,              Verdict::Translation),
@@ -96,10 +109,15 @@ const ENTRIES: [(&str, [Region; 2], u64, Verdict); 16] = [
 
 #[test]
 fn number_of_entries(rt: HostRuntime) {
-    for (shows, entries, at, verdict) in ENTRIES {
-        assert_eq!(rt; judge2(&entries, Access::Read, at), verdict, "{shows}");
+    for (shows, entries, at, verdict) in ENTRIES.as_slice() {
+        check(
+            &rt,
+            shows,
+            &[judge2(entries, Access::Read, *at)],
+            &[*verdict],
+        );
     }
-    assert_eq!(rt; judge2(&[], Access::Read, 0x100000), Verdict::Translation);
-    assert_eq!(rt; judge2(&[], Access::Write, 0), Verdict::Translation);
-    assert_eq!(rt; judge2(&[], Access::Exec, 0), Verdict::Translation);
+    let missing = [Verdict::Translation; 3];
+    check(&rt, "no entry", &verdicts(&[], 0x100000), &missing);
+    check(&rt, "no entry at 0", &verdicts(&[], 0), &missing);
 }

@@ -10,6 +10,7 @@
 -- A register answers accesses of 1, 2 and 4 bytes at exactly its offset. A write takes the low bits of its value, with
 -- zeros above; a read gives the low bits of the register. Any other access reads 0 and changes nothing.
 use Rattle.std.specs.Prelude.{ℕ, ◌+◌, ◌*◌, ◌/◌, ◌%◌, ◌^◌, ◌==◌, nat_lt, Bool, false, ◌&&◌, ◌||◌, not, if◌then◌else◌, [], ◌∷◌, ◌++◌, drop, length, slice_index, slice_set}
+use Rattle.bao_types.specs.Shape.{port_size}
 use Rattle.ports.specs.PortState.{PortState, Console, Scratch, Ticker}
 
 -- a register answers accesses of this width
@@ -26,7 +27,7 @@ is_access register offset width = offset == register && is_register_width width
 
 -- the access is one of a word of a scratch port
 abbrev pub is_word_access : ℕ → ℕ → Bool
-is_word_access offset width = offset % 4 == 0 && nat_lt offset 64 && is_register_width width
+is_word_access offset width = offset % 4 == 0 && nat_lt offset port_size && is_register_width width
 
 -- the value of the register that a read of `width` bytes at `offset` reaches, 0 where it reaches none
 abbrev pub register_read : PortState → ℕ → ℕ → ℕ

@@ -1,4 +1,5 @@
 ghost use Rattle.std.specs.Prelude.{◌≡◌, ℕ, ◌+◌, ◌*◌, ◌<◌, ◌≤◌, length, slice_index, OnOk};
+ghost use Rattle.bao_types.specs.Shape.{event_limit, port_size};
 ghost use Rattle.ports.specs.PortState.{byte_count, kind_of, output_of, PortState};
 ghost use Rattle.ports.specs.Registers.{after_input, after_read, after_write, line_of_input, line_of_write, value_read};
 
@@ -32,22 +33,22 @@ pub trait Port: Drop {
 
     /// Makes room for two writes or inputs per event.
     fn reserve(&mut self, alloc: Global, events: u32) -> Result<(), OutOfMemory>
-        requires events { events ≤ 1000000 }
-        requires bytes { byte_count (state self.old) ≤ 2000000 }
+        requires events { events ≤ event_limit }
+        requires bytes { byte_count (state self.old) ≤ 2 * event_limit }
         ensures room { OnOk result (2 * events ≤ spare self.new) }
         ensures kept { spare self.old ≤ spare self.new }
         ensures state { state self.new ≡ state self.old };
 
     /// Reads `width` bytes at `offset`. A read may take a byte that waits.
     fn read(&mut self, offset: u32, width: u32) -> u64
-        requires { offset + width ≤ 64 }
+        requires { offset + width ≤ port_size }
         ensures value { result ≡ value_read (state self.old) offset width }
         ensures state { state self.new ≡ after_read (state self.old) offset width }
         ensures spare { spare self.new ≡ spare self.old };
 
     /// Writes the low `width` bytes of `value` at `offset`, and answers whether the port's line is raised.
     fn write(&mut self, offset: u32, width: u32, value: u64) -> bool
-        requires access { offset + width ≤ 64 }
+        requires access { offset + width ≤ port_size }
         requires spare { 1 ≤ spare self.old }
         ensures line { result ≡ line_of_write (state self.old) offset width value }
         ensures state { state self.new ≡ after_write (state self.old) offset width value }
