@@ -59,14 +59,14 @@ module _ (call : Call) (files : Files) (input : InputData) (held : call.shelf.he
   due_event None n e = cc
   due_event (Some m) n e = let same : n ≡ m = cc in rw same (inl refl)
 
-  complete : (answer : Status) → Outcome call answer → call.shelf.faults_before < last_count → IsReadWell call
+  complete : (answer : Status) → Outcome call answer → call.shelf.before.faults < last_count → IsReadWell call
       → call.sink.faults_before < last_count → call.sink.faults_after ≡ call.sink.faults_before
       → IsDue (first_halt input) answer
   complete status.Done (input', done) low well wlow wsame =
       due_done (first_halt input) (sym (same_halt input' done.accepted) ∙ done.played.board.built)
   complete status.Usage (command, ruled) low well wlow wsame = absurd (not_ruled status.Usage ruled)
   complete (status.ReadFault file) fault low (inl same) wlow wsame =
-      absurd (risen-other call.shelf.faults_before low (sym fault.failed.0 ∙ same))
+      absurd (risen-other call.shelf.before.faults low (sym fault.failed.0 ∙ same))
   complete (status.ReadFault file) fault low (inr other) wlow wsame =
       absurd (other fault.config fault.schedule file fault.run fault.is_file fault.failed.1)
   complete (status.TooLong file limit) (run, ruled) low well wlow wsame = absurd (not_ruled (status.TooLong file limit) ruled)

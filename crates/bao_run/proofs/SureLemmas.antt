@@ -5,9 +5,9 @@ use Rattle.bao_run.specs.Call.{Call}
 use Rattle.bao_run.specs.Answers.{Answers, IsReadWell, last_count}
 use Rattle.bao_run.specs.SureAnswers.{IsSurelyComplete}
 
-pub surely : (call : Call) (answer : Status) → call.shelf.faults_before ≡ 0 → call.shelf.faults_after ≡ 0 → Answers call answer
+pub surely : (call : Call) (answer : Status) → call.shelf.before.faults ≡ 0 → call.shelf.after.faults ≡ 0 → Answers call answer
     → IsSurelyComplete call answer
 surely call answer before after answers files input held accepts low same =
-    let few : call.shelf.faults_before < last_count = omega arith in
+    let few : call.shelf.before.faults < last_count = omega arith in
     let well : IsReadWell call = inl (after ∙ sym before) in
     answers.complete files input held accepts few well low same

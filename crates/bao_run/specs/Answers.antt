@@ -21,7 +21,7 @@ abbrev pub IsReadWell : Call → Type 0
 IsReadWell call =
     IsFaultless call.shelf
     ⊎ ((config schedule : List ℕ) (file : FileId) → command_of call.words ≡ Run config schedule → IsFileOf sample file
-    → call.shelf.culprit ≢ name_of sample config schedule file)
+    → call.shelf.after.culprit ≢ name_of sample config schedule file)
 
 -- the answer of a run whose first event that isn't built is this one, if there is one: want of memory aside it is determined
 abbrev pub IsDue : Option ℕ → Status → Type 0
@@ -32,7 +32,7 @@ IsDue (Some number) answer = (answer ≡ status.NotBuilt (part.Event number)) �
 abbrev pub IsComplete : Call → Status → Type 0
 IsComplete call answer =
     (files : Files) (input : InputData) → call.shelf.held ≡ Some files → ruling call.words files ≡ Accept input
-    → call.shelf.faults_before < last_count → IsReadWell call
+    → call.shelf.before.faults < last_count → IsReadWell call
     → call.sink.faults_before < last_count → call.sink.faults_after ≡ call.sink.faults_before
     → IsDue (first_halt input) answer
 

@@ -1,6 +1,7 @@
 -- What a run is made of; and of a call of the top function, what it was given and what it left.
 use Rattle.std.specs.Prelude.{◌≡◌, ℕ, ◌⊎◌, List, Option}
 use Rattle.outside.specs.Faults.{risen}
+use Rattle.outside.specs.Shelf.{Blame}
 use Rattle.outside.specs.Sink.{grown, TakesPart}
 use Rattle.bao_config.specs.Data.{ConfigData}
 use Rattle.board.specs.Machine.{Machine}
@@ -16,12 +17,11 @@ pub record InputData : Type 0 where
 abbrev pub Files : Type 0
 Files = List ℕ → Option (List ℕ)
 
--- what the shelf tells, its count of faults before and after, and the name at the last fault
+-- what the shelf tells, and its faults before and after
 pub record ShelfUse : Type 0 where
   pub held : Option Files
-  pub faults_before : ℕ
-  pub faults_after : ℕ
-  pub culprit : List ℕ
+  pub before : Blame
+  pub after : Blame
 
 -- what the sink tells and its count of faults, before and after
 pub record SinkUse : Type 0 where
@@ -43,11 +43,11 @@ pub record Call : Type 0 where
 
 -- the shelf didn't fail
 abbrev pub IsFaultless : ShelfUse → Type 0
-IsFaultless shelf = shelf.faults_after ≡ shelf.faults_before
+IsFaultless shelf = shelf.after.faults ≡ shelf.before.faults
 
 -- the shelf failed, at this name
 abbrev pub HasFailed : ShelfUse → List ℕ → Type 0
-HasFailed shelf name = (shelf.faults_after ≡ risen shelf.faults_before) × (shelf.culprit ≡ name)
+HasFailed shelf name = (shelf.after.faults ≡ risen shelf.before.faults) × (shelf.after.culprit ≡ name)
 
 -- a text was put out whole
 abbrev pub IsTaken : SinkUse → List ℕ → Type 0

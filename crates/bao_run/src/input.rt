@@ -35,9 +35,8 @@ pub fn read_input<S: Shelf>(
     ensures held { S.held shelf.new ≡ S.held shelf.old }
     ensures answer { IsAnswer (record {
       held = S.held shelf.old;
-      faults_before = S.faults shelf.old;
-      faults_after = S.faults shelf.new;
-      culprit = S.culprit shelf.new;
+      before = record { faults = S.faults shelf.old; culprit = S.culprit shelf.old };
+      after = record { faults = S.faults shelf.new; culprit = S.culprit shelf.new };
     }) config.now schedule.now result }
 {
     let text = fetch(alloc, shelf, FileId::Config, config, CONFIG_LIMIT)?;
@@ -61,9 +60,8 @@ fn fetch<S: Shelf>(
     ensures held { S.held shelf.new ≡ S.held shelf.old }
     ensures answer { IsFetch (record {
       held = S.held shelf.old;
-      faults_before = S.faults shelf.old;
-      faults_after = S.faults shelf.new;
-      culprit = S.culprit shelf.new;
+      before = record { faults = S.faults shelf.old; culprit = S.culprit shelf.old };
+      after = record { faults = S.faults shelf.new; culprit = S.culprit shelf.new };
     }) (record { file = file; name = name.now; limit = limit }) result }
 {
     match shelf.fetch(alloc, name, limit) {

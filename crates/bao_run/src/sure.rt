@@ -12,6 +12,6 @@ use outside::{Shelf, SureShelf};
 #[tactic(auto, using(crate::proofs::SureLemmas::surely))]
 pub fn complete_over_a_sure_shelf()
     ensures { (before after : FileListData) (call : Call) (answer : Status)
-        → call.shelf.faults_before ≡ ⟦<SureShelf as Shelf>⟧.faults before → call.shelf.faults_after ≡ ⟦<SureShelf as Shelf>⟧.faults after
+        → call.shelf.before.faults ≡ ⟦<SureShelf as Shelf>⟧.faults before → call.shelf.after.faults ≡ ⟦<SureShelf as Shelf>⟧.faults after
         → Answers call answer → IsSurelyComplete call answer }
 {}

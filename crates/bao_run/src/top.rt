@@ -34,9 +34,8 @@ pub fn run_bao<S: Shelf, K: Sink, B: Board>(
       words = map string_bytes words.now;
       shelf = record {
         held = S.held shelf.old;
-        faults_before = S.faults shelf.old;
-        faults_after = S.faults shelf.new;
-        culprit = S.culprit shelf.new;
+        before = record { faults = S.faults shelf.old; culprit = S.culprit shelf.old };
+        after = record { faults = S.faults shelf.new; culprit = S.culprit shelf.new };
       };
       sink = record {
         taken_before = K.taken sink.old;
@@ -64,9 +63,8 @@ fn carry_out<S: Shelf, K: Sink, B: Board>(
       words = map string_bytes words.now;
       shelf = record {
         held = S.held shelf.old;
-        faults_before = S.faults shelf.old;
-        faults_after = S.faults shelf.new;
-        culprit = S.culprit shelf.new;
+        before = record { faults = S.faults shelf.old; culprit = S.culprit shelf.old };
+        after = record { faults = S.faults shelf.new; culprit = S.culprit shelf.new };
       };
       sink = record {
         taken_before = K.taken sink.old;

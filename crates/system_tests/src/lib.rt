@@ -4,9 +4,11 @@
 pub use worked_rows::{rows, storing_rows};
 
 #[cfg(test)]
+mod answers;
+#[cfg(test)]
 mod entries;
 #[cfg(test)]
 mod programs;
 #[cfg(test)]
-mod tests;
+mod runs;
 mod worked_rows;

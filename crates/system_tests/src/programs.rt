@@ -1,32 +1,33 @@
 //! Guests that the whole program runs, each by the lines of its report. The expected lines were worked out by hand; those
 //! of whole programs and of loads and stores were compared with what scripts/report-by-qemu.py prints.
 
-use crate::tests::{CONFIG, Played, RUN, image_of, play, shelf_of};
-use report::{Part, Status};
+use crate::runs::{case_of, image_of, steps, told};
 use std::alloc::Global;
+use std::process::Abort;
 use std::test::Fail;
 
-/// What a program of so many steps left.
-fn run_words(alloc: Global, words: &[u32], count: u64) -> Result<Played, Fail> {
-    let mut schedule = Vec::new(alloc);
-    for _ in 0..count {
-        schedule.extend_from_slice(b"s 0 0\n")?;
-    }
-    let image = image_of(alloc, words)?;
-    let mut shelf = shelf_of(alloc, CONFIG.as_bytes(), image, &schedule, &[])?;
-    play(alloc, &RUN, &mut shelf, &[])
-}
+/// What a row shows, a program's words, how many steps it takes, and lines of its report; an empty one is none.
+type Program = (&'static str, &'static [u32], u32, [&'static str; 2]);
 
 /// Whether a text has this line; an empty one is none.
-fn has_line(text: &[u8], line: &str) -> bool {
-    line.is_empty()
-        || text
-            .split(|byte| *byte == b'\n')
-            .any(|other| other == line.as_bytes())
+fn has_line(text: &str, line: &str) -> bool {
+    line.is_empty() || text.split('\n').any(|other| other == line)
+}
+
+/// Runs a program with words before it, which take a step each, and looks for the lines in its report.
+fn check_program(rt: &impl Abort, alloc: Global, first: &[u32], program: &Program) -> Result<(), Fail> {
+    let (shows, words, count, [one, other]) = *program;
+    let mut image = image_of(alloc, first)?;
+    image.extend_from_slice(&image_of(alloc, words)?)?;
+    let schedule = steps(alloc, first.len() as u32 + count)?;
+    let told = told(alloc, &case_of(&image, &schedule))?;
+    let holds = told.starts_with("status 0 ") && has_line(&told, one) && has_line(&told, other);
+    assert!(rt; holds, "{shows}: {one}, {other} in {told}");
+    Ok(())
 }
 
 #[rattlefmt::skip]
-const PROGRAMS: [(&str, &[u32], u32, [&str; 2]); 33] = [
+static PROGRAMS: [Program; 33] = [
     // shows                        words                                              steps  lines of the report
     ("movz, bits 15 to 0",          &[0xd282_4681],                                       1, ["x1 0000000000001234", "pc 0000000000100004"]),
     ("movz, bits 31 to 16",         &[0xd2a2_4681],                                       1, ["x1 0000000012340000", ""]),
@@ -100,7 +101,7 @@ const PLACE_AND_NUMBER: [u32; 6] = [
 
 /// Behind `PLACE_AND_NUMBER`, with the steps beyond it.
 #[rattlefmt::skip]
-const LOADS_AND_STORES: [(&str, &[u32], u32, [&str; 2]); 27] = [
+static LOADS_AND_STORES: [Program; 27] = [
     // shows                          words                                          steps  lines of the report
     ("stur across a granule",         &[0xf803_c020],                                    1, ["m 0000000000108030 00000000000000000000000088776655", "m 0000000000108040 44332211000000000000000000000000"]),
     ("ldur across a granule",         &[0xf803_c020, 0xf843_c022],                       2, ["x2 1122334455667788", "x1 0000000000108000"]),
@@ -133,34 +134,22 @@ const LOADS_AND_STORES: [(&str, &[u32], u32, [&str; 2]); 27] = [
 
 #[test]
 fn programs(rt: HostRuntime) -> Result<(), Fail> {
-    let alloc = rt.alloc();
-    for (shows, words, count, lines) in PROGRAMS {
-        let played = run_words(alloc, words, u64::from(count))?;
-        assert_eq!(rt; played.status, Status::Done, "{shows}");
-        for line in lines {
-            assert!(rt; has_line(&played.text, line), "{shows}: {line}");
-        }
+    for program in PROGRAMS.as_slice() {
+        check_program(&rt, rt.alloc(), &[], program)?;
     }
     Ok(())
 }
 
 #[test]
 fn loads_and_stores(rt: HostRuntime) -> Result<(), Fail> {
-    let alloc = rt.alloc();
-    for (shows, words, count, lines) in LOADS_AND_STORES {
-        let mut program = PLACE_AND_NUMBER.to_vec(alloc)?;
-        program.extend_from_slice(words)?;
-        let played = run_words(alloc, &program, 6 + u64::from(count))?;
-        assert_eq!(rt; played.status, Status::Done, "{shows}");
-        for line in lines {
-            assert!(rt; has_line(&played.text, line), "{shows}: {line}");
-        }
+    for program in LOADS_AND_STORES.as_slice() {
+        check_program(&rt, rt.alloc(), &PLACE_AND_NUMBER, program)?;
     }
     Ok(())
 }
 
 #[rattlefmt::skip]
-const NOT_BUILT: [(&str, &[u32], u32, u32); 25] = [
+static NOT_BUILT: [(&str, &[u32], u32, u32); 25] = [
     // shows                           words                                 steps event
     ("a word of zeros",                &[0x0000_0000],                           1, 0),
     ("the second word",                &[0xd280_00a0, 0x0000_0000],              2, 1),
@@ -189,15 +178,28 @@ const NOT_BUILT: [(&str, &[u32], u32, u32); 25] = [
     ("a store to the console's port",  &[0xd2b3_8121, 0xb900_0020],              2, 1),
 ];
 
+fn check_not_built(
+    rt: &impl Abort,
+    alloc: Global,
+    shows: &str,
+    words: &[u32],
+    count: u32,
+    event: u32,
+) -> Result<(), Fail> {
+    let image = image_of(alloc, words)?;
+    let schedule = steps(alloc, count)?;
+    let told = told(alloc, &case_of(&image, &schedule))?;
+    let entered = u64::from(event) + 1;
+    let wanted =
+        format!(in alloc; "status 12 entered {entered} calls 3 faults 0\nnot built event {event}\n")?;
+    assert_eq!(rt; told, wanted, "{shows}");
+    Ok(())
+}
+
 #[test]
 fn events_that_are_not_built(rt: HostRuntime) -> Result<(), Fail> {
-    let alloc = rt.alloc();
-    for (shows, words, count, event) in NOT_BUILT {
-        let played = run_words(alloc, words, u64::from(count))?;
-        let part = Part::Event(event);
-        assert_eq!(rt; played.status, Status::NotBuilt { part }, "{shows}");
-        let line = format!(in alloc; "not built event {event}\n")?;
-        assert!(rt; played.text.as_slice() == line.as_bytes(), "{shows}");
+    for (shows, words, count, event) in NOT_BUILT.as_slice() {
+        check_not_built(&rt, rt.alloc(), shows, words, *count, *event)?;
     }
     Ok(())
 }

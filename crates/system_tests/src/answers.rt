@@ -1,0 +1,318 @@
+//! Each answer of the program: its status, its line, and what was done before it.
+
+use crate::runs::{CONFIG, FOREVER, RUN, case_of, check, image_of, steps, strings};
+use bao_run::run_bao;
+use outside::{MemSink, SureShelf};
+use sim_board::SimBoard;
+use std::alloc::Global;
+use std::process::Abort;
+use std::test::Fail;
+
+/// `movz x0, #5` and `b .`
+const FIVE: [u32; 2] = [0xd280_00a0, 0x1400_0000];
+
+/// What `FIVE` leaves after three steps.
+const FIVE_REPORT: &str = "vm a
+core 0 on
+pc 0000000000100004
+pstate 000003c5
+x0 0000000000000005
+console 0=
+m 0000000000100000 a00080d2000000140000000000000000
+end a
+done
+";
+
+#[test]
+fn first_runs(rt: HostRuntime) -> Result<(), Fail> {
+    static ROWS: [(&str, &str); 2] = [
+        (
+            "s 0 0\ns 0 1\ns 0 2\n",
+            "status 0 entered 3 calls 3 faults 0
+vm a
+core 0 on
+pc 0000000000100004
+pstate 000003c5
+x0 0000000000000005
+console 0=
+m 0000000000100000 a00080d2000000140000000000000000
+end a
+done
+",
+        ),
+        (
+            "",
+            "status 0 entered 0 calls 3 faults 0
+vm a
+core 0 on
+pc 0000000000100000
+pstate 000003c5
+console 0=
+m 0000000000100000 a00080d2000000140000000000000000
+end a
+done
+",
+        ),
+    ];
+    let alloc = rt.alloc();
+    let image = image_of(alloc, &FIVE)?;
+    for (schedule, wanted) in ROWS.as_slice() {
+        let case = case_of(&image, schedule.as_bytes());
+        check(&rt, alloc, schedule, &case, wanted)?;
+    }
+    Ok(())
+}
+
+const USAGE: &str = "usage: run CONFIG SCHEDULE or check CONFIG or gen N\n";
+const OTHER: &str = "not built words\n";
+
+/// Words that aren't those of a run, with the status and the line that they get.
+#[rattlefmt::skip]
+static WORDS: [(&[&str], u8, &str); 19] = [
+    // words                                       status line
+    (&[],                                            2, USAGE),
+    (&[""],                                          2, USAGE),
+    (&["run"],                                       2, USAGE),
+    (&["run", "config.toml"],                        2, USAGE),
+    (&["run", "config.toml", "schedule.txt", "x"],   2, USAGE),
+    (&["Run", "config.toml", "schedule.txt"],        2, USAGE),
+    (&["runs", "config.toml", "schedule.txt"],       2, USAGE),
+    (&["check"],                                     2, USAGE),
+    (&["check", "config.toml"],                     12, OTHER),
+    (&["check", "config.toml", "x"],                 2, USAGE),
+    (&["gen"],                                       2, USAGE),
+    (&["gen", "0"],                                 12, OTHER),
+    (&["gen", "007"],                                2, USAGE),
+    (&["gen", "4294967295"],                        12, OTHER),
+    (&["gen", "4294967296"],                         2, USAGE),
+    (&["gen", "99999999999999999999999"],            2, USAGE),
+    (&["gen", "+1"],                                 2, USAGE),
+    (&["gen", ""],                                   2, USAGE),
+    (&["gen", "1", "2"],                             2, USAGE),
+];
+
+fn check_words(rt: &impl Abort, alloc: Global, words: &[&str], status: u8, line: &str) -> Result<(), Fail> {
+    let mut case = case_of(b"", b"");
+    case.words = words;
+    let shows = format!(in alloc; "{words:?}")?;
+    let wanted = format!(in alloc; "status {status} entered 0 calls 0 faults 0\n{line}")?;
+    check(rt, alloc, &shows, &case, &wanted)
+}
+
+#[test]
+fn words(rt: HostRuntime) -> Result<(), Fail> {
+    for (words, status, line) in WORDS.as_slice() {
+        check_words(&rt, rt.alloc(), words, *status, line)?;
+    }
+    Ok(())
+}
+
+/// The report of `b .`, after any number of steps.
+const FOREVER_REPORT: &str = "vm a
+core 0 on
+pc 0000000000100000
+pstate 000003c5
+console 0=
+m 0000000000100000 00000014000000000000000000000000
+end a
+done
+";
+
+/// Schedules over `b .`, and how many steps they are; none, where they are no schedule.
+#[rattlefmt::skip]
+static SCHEDULES: [(&str, Option<u32>); 16] = [
+    // schedule              steps
+    ("",                     Some(0)),
+    ("s 0 0\n",              Some(1)),
+    ("s 0 9\n",              Some(1)),
+    ("s 0 3\ns 0 3\n",       Some(2)),
+    ("s 0 3\ns 0 4\n",       Some(2)),
+    ("s 0 4\ns 0 3\n",       None),
+    ("s 0 0",                None),
+    ("\n",                   None),
+    ("# comment\n",          None),
+    ("s 1 0\n",              None),
+    ("s 0 00\n",             None),
+    ("s 0 10\n",             None),
+    ("i 0 0\n",              None),
+    ("s  0 0\n",             None),
+    ("s 0 0\r\n",            None),
+    ("s 0 0\ns 0 0",         None),
+];
+
+fn check_schedule(
+    rt: &impl Abort,
+    alloc: Global,
+    shows: &str,
+    schedule: &[u8],
+    entered: Option<u32>,
+) -> Result<(), Fail> {
+    let wanted = match entered {
+        Some(entered) => {
+            format!(in alloc; "status 0 entered {entered} calls 3 faults 0\n{FOREVER_REPORT}")?
+        }
+        None => {
+            format!(in alloc; "status 12 entered 0 calls 3 faults 0\nnot built schedule\n")?
+        }
+    };
+    let image = image_of(alloc, &FOREVER)?;
+    check(rt, alloc, shows, &case_of(&image, schedule), &wanted)
+}
+
+#[test]
+fn schedules(rt: HostRuntime) -> Result<(), Fail> {
+    for (schedule, entered) in SCHEDULES.as_slice() {
+        check_schedule(&rt, rt.alloc(), schedule, schedule.as_bytes(), *entered)?;
+    }
+    Ok(())
+}
+
+/// As many events as a schedule may have are all run, and one more is refused.
+#[test]
+fn a_million_events(rt: HostRuntime) -> Result<(), Fail> {
+    let alloc = rt.alloc();
+    let mut schedule = steps(alloc, 1_000_000)?;
+    check_schedule(&rt, alloc, "a million", &schedule, Some(1_000_000))?;
+    schedule.extend_from_slice(b"s 0 0\n")?;
+    check_schedule(&rt, alloc, "a million and one", &schedule, None)
+}
+
+/// Lengths of the files in bytes, 0 for a configuration that is the accepted one, and the answer.
+#[rattlefmt::skip]
+static LIMITS: [(&str, usize, usize, usize, &str); 6] = [
+    // shows                     config  image   schedule    answer
+    ("a configuration too long", 65_537, 8,      0,          "status 4 entered 0 calls 1 faults 0\ntoo long config limit 65536\n"),
+    ("one just not too long",    65_536, 8,      0,          "status 12 entered 0 calls 1 faults 0\nnot built config\n"),
+    ("an image too long",        0,      32_769, 0,          "status 4 entered 0 calls 2 faults 0\ntoo long image 0 limit 32768\n"),
+    ("one just not too long",    0,      32_768, 0,          "status 0 entered 0 calls 3 faults 0\nvm a\ncore 0 on\npc 0000000000100000\npstate 000003c5\nconsole 0=\nend a\ndone\n"),
+    ("a schedule too long",      0,      8,      33_554_433, "status 4 entered 0 calls 3 faults 0\ntoo long schedule limit 33554432\n"),
+    ("one just not too long",    0,      8,      33_554_432, "status 12 entered 0 calls 3 faults 0\nnot built schedule\n"),
+];
+
+fn check_limit(
+    rt: &impl Abort,
+    alloc: Global,
+    shows: &str,
+    lengths: [usize; 3],
+    wanted: &str,
+) -> Result<(), Fail> {
+    let [config, image, schedule] = lengths;
+    let config = vec![in alloc; b'#'; config]?;
+    let image = vec![in alloc; 0u8; image]?;
+    let schedule = vec![in alloc; b'#'; schedule]?;
+    let mut case = case_of(&image, &schedule);
+    if !config.is_empty() {
+        case.config = &config;
+    }
+    check(rt, alloc, shows, &case, wanted)
+}
+
+#[test]
+fn limits(rt: HostRuntime) -> Result<(), Fail> {
+    for (shows, config, image, schedule, wanted) in LIMITS.as_slice() {
+        check_limit(&rt, rt.alloc(), shows, [*config, *image, *schedule], wanted)?;
+    }
+    Ok(())
+}
+
+/// The call of the shelf that fails and the answer. A sink that fails at the line leaves the status.
+static FAILING_CALLS: [(&[u32], &[u32], &str); 7] = [
+    (&[1], &[], "status 3 entered 0 calls 1 faults 1\nread fault config\n"),
+    (&[2], &[], "status 3 entered 0 calls 2 faults 1\nread fault image 0\n"),
+    (&[3], &[], "status 3 entered 0 calls 3 faults 1\nread fault schedule\n"),
+    (&[1], &[1], "status 3 entered 0 calls 1 faults 1\n"),
+    (&[2], &[1], "status 3 entered 0 calls 2 faults 1\n"),
+    (&[3], &[1], "status 3 entered 0 calls 3 faults 1\n"),
+    // A fourth call isn't made.
+    (&[4], &[1], "status 9 entered 1 calls 3 faults 0\n"),
+];
+
+fn check_failing(
+    rt: &impl Abort,
+    alloc: Global,
+    calls: &[u32],
+    puts: &[u32],
+    wanted: &str,
+) -> Result<(), Fail> {
+    let image = image_of(alloc, &FIVE)?;
+    let mut case = case_of(&image, b"s 0 0\n");
+    case.failing_calls = calls;
+    case.failing_puts = puts;
+    check(rt, alloc, wanted, &case, wanted)
+}
+
+#[test]
+fn a_shelf_that_fails(rt: HostRuntime) -> Result<(), Fail> {
+    for (calls, puts, wanted) in FAILING_CALLS.as_slice() {
+        check_failing(&rt, rt.alloc(), calls, puts, wanted)?;
+    }
+    Ok(())
+}
+
+#[test]
+fn a_file_that_is_missing(rt: HostRuntime) -> Result<(), Fail> {
+    let alloc = rt.alloc();
+    let mut case = case_of(b"", b"");
+    case.words = &["run", "config.toml", "other.txt"];
+    let wanted = "status 3 entered 0 calls 3 faults 1\nread fault schedule\n";
+    check(&rt, alloc, "a schedule that is missing", &case, wanted)
+}
+
+/// The puts of the report of `FIVE` after one step, in order.
+static PUTS: [&str; 10] = [
+    "vm a\n",
+    "core 0 on\n",
+    "pc 0000000000100004\n",
+    "pstate 000003c5\n",
+    "x0 0000000000000005\n",
+    "console 0=",
+    "\n",
+    "m 0000000000100000 a00080d2000000140000000000000000\n",
+    "end a\n",
+    "done\n",
+];
+
+/// A sink that fails at the put of this number, from 1, has taken all those before it.
+fn check_failing_put(rt: &impl Abort, alloc: Global, put: u32, taken: &str) -> Result<(), Fail> {
+    let wanted = format!(in alloc; "status 9 entered 1 calls 3 faults 0\n{taken}")?;
+    check_failing(rt, alloc, &[], &[put], &wanted)
+}
+
+#[test]
+fn a_sink_that_fails(rt: HostRuntime) -> Result<(), Fail> {
+    let alloc = rt.alloc();
+    let mut taken = String::new(alloc);
+    let mut put = 1;
+    for part in PUTS.as_slice() {
+        check_failing_put(&rt, alloc, put, &taken)?;
+        taken.push_str(part)?;
+        put = put.saturating_add(1);
+    }
+    // An eleventh put isn't made.
+    let wanted = format!(in alloc; "status 0 entered 1 calls 3 faults 0\n{taken}")?;
+    check_failing(&rt, alloc, &[], &[11], &wanted)
+}
+
+/// Over a shelf that never fails two runs give the same report.
+#[test]
+fn a_sure_shelf_and_two_runs(rt: HostRuntime) -> Result<(), Fail> {
+    let alloc = rt.alloc();
+    for _ in 0..2 {
+        let names = strings(alloc, &["config.toml", "a.bin", "schedule.txt"])?;
+        let contents = vec![in alloc;
+            CONFIG.as_bytes().to_vec(alloc)?,
+            image_of(alloc, &FIVE)?,
+            b"s 0 0\ns 0 1\ns 0 2\n".to_vec(alloc)?,
+        ]?;
+        let mut shelf = SureShelf::new(alloc, names, contents);
+        let mut sink = MemSink::new(alloc, 4096, Vec::new(alloc))?;
+        let mut board = SimBoard::new(alloc);
+        let words = strings(alloc, &RUN)?;
+        let status = run_bao(alloc, &words, &mut shelf, &mut sink, &mut board);
+        let text = std::str::from_utf8(sink.taken())?;
+        let told = format!(in alloc; "{}\n{text}", status.number())?;
+        let wanted = format!(in alloc; "0\n{FIVE_REPORT}")?;
+        assert_eq!(rt; told, wanted);
+    }
+    Ok(())
+}
