@@ -10,6 +10,7 @@ pub mod Fresh
 pub mod Input
 pub mod Outcome
 pub mod Play
+pub mod Realises
 pub mod Steps
 pub mod Answers
 pub mod SureAnswers
