@@ -47,7 +47,7 @@ events_of-own low (a ∷ b ∷ c ∷ []) events e = cc
 events_of-own low (a ∷ b ∷ c ∷ d ∷ []) events e = cc
 events_of-own low (a ∷ b ∷ c ∷ d ∷ digit ∷ []) events e = cc
 events_of-own low (a ∷ b ∷ c ∷ d ∷ digit ∷ f ∷ rest) events e =
-    own_if (is_line low a b c d digit f) (digit - 48) (events_of digit rest) events e
+    own_if (is_line low (a ∷ b ∷ c ∷ d ∷ digit ∷ f ∷ [])) (digit - 48) (events_of digit rest) events e
     (λ left h. events_of-own digit rest left h)
 
 schedule_of-own : (bytes : List ℕ) (events : List FlatEvent) → schedule_of bytes ≡ Some events → AreOwn events
