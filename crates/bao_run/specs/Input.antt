@@ -2,6 +2,7 @@
 use Rattle.std.specs.Prelude.{◌≡◌, ℕ, ◌+◌, ◌<◌, ◌≤◌, List, [], ◌∷◌, All, Vec, Option, Some, None, Result, Ok, Err, IsSomeAnd, map, length, slice_get, unwrap_or, ⊤}
 use Rattle.std.specs.declared.alloc.Global.{Global}
 use Rattle.std.specs.Option.{option_map}
+use Rattle.bao_types.specs.Shape.{event_limit}
 use Rattle.outside.specs.Shelf.{IfTold}
 use Rattle.bao_config.specs.Data.{ConfigData, VmData}
 use Rattle.report.specs.declared.status.FileId.{FileId}
@@ -12,7 +13,7 @@ use Rattle.report.specs.declared.status.Status.{Status}
 use Rattle.report.specs.declared.status.Status.TheVariants as status
 use Rattle.report.specs.Sample.{sample}
 use Rattle.bao_run.specs.Call.{InputData, Files, ShelfUse, IsFaultless, HasFailed}
-use Rattle.bao_run.specs.Ruling.{Ruling, Refused, Missing, Accept, rule_config}
+use Rattle.bao_run.specs.Ruling.{Ruling, Refused, Missing, Accept, image_limit, rule_config}
 use Rattle.bao_run.specs.Schedule.{schedule_of, flat_event, IsOfCoreZero}
 use Rattle.bao_run.specs.declared.input.Input.{Input}
 
@@ -99,11 +100,11 @@ abbrev pub input_data : Input → InputData
 input_data input =
     record { cfg = sample; images = input.image.items ∷ []; events = map flat_event input.events.items }
 
--- the image fits its VM's room, and the events are steps of core 0, a million at most
+-- the image fits its VM's room, and the events are steps of core 0, no more than a board takes
 pub record CanPlay (input : Input) : Type 0 where
-  pub image : length input.image.items ≤ 0x8000
+  pub image : length input.image.items ≤ image_limit
   pub own : All IsOfCoreZero input.events.items
-  pub few : length input.events.items ≤ 1000000
+  pub few : length input.events.items ≤ event_limit
 
 -- the input that the told contents give
 pub record IsInput (shelf : ShelfUse) (config schedule : List ℕ) (input : Input) : Type 0 where

@@ -2,6 +2,7 @@ ghost use Rattle.std.specs.Prelude.{◌≡◌, ◌≤◌, ◌<◌, ◌+◌, ◌�
 ghost use Rattle.bao_types.specs.Region.{no_region};
 ghost use Rattle.bao_types.specs.Shape.{shape_data};
 ghost use Rattle.report.specs.Sample.{sample};
+ghost use Rattle.bao_run.specs.Ruling.{image_limit};
 ghost use Rattle.bao_run.specs.Sample.{sample_packing};
 ghost use Rattle.bao_run.specs.Shape.{shape_of};
 ghost use Rattle.vm_model.specs.Flat.{On, Step, flat_step, is_event_unbuilt};
@@ -62,7 +63,7 @@ pub fn sample_shape(events: u32) -> Shape
 /// Boots the one configuration that is accepted, on a board that was just fitted for it.
 pub fn boot<B: Board>(board: &mut B, image: &[u8])
     requires fresh { B.state board.old ≡ fresh_machine (B.state board.old).shape.events }
-    requires image { length image.now ≤ 0x8000 }
+    requires image { length image.now ≤ image_limit }
     ensures { B.state board.new ≡ booted_machine (B.state board.old).shape.events image.now }
 {
     board.load(0x10_0000, image);
