@@ -20,7 +20,24 @@ pub struct Region {
 }
 
 impl Region {
-    ghost use Rattle.bao_types.specs.Region.{access_permission, covers, is_enabled, is_execute_never, is_match};
+    ghost use Rattle.std.specs.Prelude.{◌<◌};
+    ghost use Rattle.bao_types.specs.Region.{access_permission, covers, first_byte, is_enabled, is_execute_never, is_match, last_byte};
+
+    /// BASE times 64: the address of the region's first byte, below 2^48.
+    pub fn first_byte(&self) -> u64
+        ensures value { result ≡ first_byte self.now }
+        ensures bound { result < 0x1000000000000 }
+    {
+        self.base / 64 % (1 << 42) * 64
+    }
+
+    /// LIMIT times 64 + 63: the address of the region's last byte, below 2^48.
+    pub fn last_byte(&self) -> u64
+        ensures value { result ≡ last_byte self.now }
+        ensures bound { result < 0x1000000000000 }
+    {
+        self.limit / 64 % (1 << 42) * 64 + 63
+    }
 
     /// Whether the byte at `at` lies between the region's base and the last byte of its limit granule.
     /// The region need not be enabled.
