@@ -8,7 +8,7 @@ ghost use Rattle.std.specs.Process.{exit_status};
 ghost use Rattle.report.specs.declared.status.Status.{Status};
 ghost use Rattle.report.specs.Status.{is_refusal, number_of, refusal_text};
 ghost use Rattle.bao_run.specs.Answers.{Answers};
-ghost use Rattle.bao_run.specs.Outcome.{IsPut};
+ghost use Rattle.bao_run.specs.Call.{IsPut};
 
 use bao_run::run_bao;
 use board::Board;
@@ -62,16 +62,18 @@ pub fn answer<S: Shelf, K: Sink, B: Board>(
     requires quiet { (B.state board.old).console ≡ (λ port. []) }
     ensures { (status : Status) × (exit_status result ≡ number_of status) × Answers (record {
       words = map string_bytes words.now;
-      held = S.held shelf.old;
-      read_before = S.faults shelf.old;
-      read_after = S.faults shelf.new;
-      culprit = S.culprit shelf.new;
-      taken_before = K.taken sink.old;
-      taken_after = K.taken sink.new;
-      write_before = K.faults sink.old;
-      write_after = K.faults sink.new;
-      board_before = B.state board.old;
-      board_after = B.state board.new;
+      shelf = record {
+        held = S.held shelf.old;
+        before = record { faults = S.faults shelf.old; culprit = S.culprit shelf.old };
+        after = record { faults = S.faults shelf.new; culprit = S.culprit shelf.new };
+      };
+      sink = record {
+        taken_before = K.taken sink.old;
+        taken_after = K.taken sink.new;
+        faults_before = K.faults sink.old;
+        faults_after = K.faults sink.new;
+      };
+      board = record { before = B.state board.old; after = B.state board.new };
     }) status }
 {
     let status = run_bao(alloc, words, shelf, sink, board);
@@ -82,7 +84,12 @@ pub fn answer<S: Shelf, K: Sink, B: Board>(
 pub fn refuse<K: Sink>(sink: &mut K, status: &Status) -> ExitCode
     requires { IsTrue (is_refusal status.now) }
     ensures status { exit_status result ≡ number_of status.now }
-    ensures line { IsPut (K.taken sink.old) (K.taken sink.new) (K.faults sink.old) (K.faults sink.new) (refusal_text status.now) }
+    ensures line { IsPut (record {
+      taken_before = K.taken sink.old;
+      taken_after = K.taken sink.new;
+      faults_before = K.faults sink.old;
+      faults_after = K.faults sink.new;
+    }) (refusal_text status.now) }
 {
     let _ = write_refusal(sink, status);
     ExitCode::from(status.number())

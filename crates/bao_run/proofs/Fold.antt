@@ -2,9 +2,10 @@
 use Rattle.std.proofs.Common.{◌≡◌, ℕ, suc, ◌+◌, ◌<◌, true, false, List, [], ◌∷◌, length, drop, get_or, map, refl, sym, ap, ◌∙◌, arith, add-one}
 use Rattle.std.specs.Prelude.{Some, if◌then◌else◌}
 use Rattle.std.proofs.Math.Seq.{drop-cons}
-use Rattle.board.specs.Sample.{sample}
+use Rattle.report.specs.Sample.{sample}
 use Rattle.board.specs.Machine.{Machine}
-use Rattle.board.specs.Flat.{Flat, On, project, flat_step, flat_run, is_entered, entered_count, is_event_unbuilt, first_unbuilt}
+use Rattle.vm_model.specs.Flat.{Flat, On, flat_step, flat_run, is_entered, entered_count, is_event_unbuilt, first_unbuilt}
+use Rattle.vm_model.specs.Project.{project}
 use Rattle.bao_run.specs.Schedule.{flat_event, IsOfCoreZero}
 use Rattle.bao_run.specs.Fresh.{IsReady}
 use Rattle.bao_run.specs.declared.schedule.Event.{Event}
@@ -21,11 +22,11 @@ pub record IsRunning (start now : Machine) (taken : ℕ) (all left : List Event)
   pub entered : now.entered + entered_count sample (flat now) (map flat_event left)
       ≡ start.entered + entered_count sample (flat start) (map flat_event all)
   pub spent : now.spent ≡ start.spent + taken
-  pub events : now.shape.events ≡ start.shape.events
+  pub shape : now.shape ≡ start.shape
 
 -- nothing was taken yet
 pub starts : (start : Machine) (all : List Event) → IsReady start → IsRunning start start 0 all all
-starts start all ready = record { ready = ready; state = refl; built = refl; entered = refl; spent = omega arith; events = refl }
+starts start all ready = record { ready = ready; state = refl; built = refl; entered = refl; spent = omega arith; shape = refl }
 
 -- each step of core 0 enters it
 enters : (f : Flat) (e : Event) → f.powers ≡ On ∷ [] → IsOfCoreZero e → is_entered sample f (flat_event e) ≡ true
@@ -46,9 +47,9 @@ module _ (start now next : Machine) (taken : ℕ) (all left : List Event) (e : E
   -- it was taken
   pub runs_on : false ≡ is_event_unbuilt sample (flat now) (flat_event e) → IsReady next
       → flat next ≡ flat_step sample (flat now) (flat_event e)
-      → next.entered ≡ now.entered + 1 → next.spent ≡ now.spent + 1 → next.shape.events ≡ now.shape.events
+      → next.entered ≡ now.entered + 1 → next.spent ≡ now.spent + 1 → next.shape ≡ now.shape
       → IsRunning start next (taken + 1) all left
-  runs_on built ready state entered spent events = record {
+  runs_on built ready state entered spent shape = record {
     ready = ready;
     state = ap (λ f. flat_run sample f (map flat_event left)) state ∙ running.state;
     built = ap (λ f. first_unbuilt sample f (taken + 1) (map flat_event left)) state
@@ -63,5 +64,5 @@ module _ (start now next : Machine) (taken : ℕ) (all left : List Event) (e : E
         ap (λ f. entered_count sample f (map flat_event left)) state in
         omega (arith, running.entered, one, same, entered);
     spent = omega (arith, running.spent, spent);
-    events = events ∙ running.events;
+    shape = shape ∙ running.shape;
   }

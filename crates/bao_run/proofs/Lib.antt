@@ -1,3 +1,4 @@
+pub mod Realises
 pub mod Refines
 pub mod Numbers
 pub mod Lines

@@ -1,10 +1,10 @@
 -- A schedule, line by line.
-use Rattle.std.proofs.Common.{◌≡◌, ℕ, ◌+◌, ◌-◌, ◌*◌, ◌<◌, ◌≤◌, Bool, true, false, List, [], ◌∷◌, ◌++◌, length, drop, get_or, map, refl, sym, ap, ◌∙◌, arith, rules, length-append, length-drop, append_assoc, append-nil}
-use Rattle.std.specs.Prelude.{All, Option, None, Some, if◌then◌else◌, ◌&&◌, nat_le}
+use Rattle.std.proofs.Common.{◌≡◌, ℕ, ◌+◌, ◌-◌, ◌*◌, ◌<◌, ◌≤◌, Bool, true, false, List, [], ◌∷◌, ◌++◌, length, take, drop, get_or, get_or-take, map, refl, sym, ap, ◌∙◌, arith, rules, length-append, length-drop, append_assoc, append-nil}
+use Rattle.std.specs.Prelude.{All, Option, None, Some, if◌then◌else◌, ◌&&◌, ◌==◌, nat_le}
 use Rattle.std.proofs.lemmas.Bool.Decides.{nat_tests}
 use Rattle.std.proofs.lemmas.List.{map-append}
 use Rattle.std.proofs.lemmas.List.Elements.{All-append}
-use Rattle.board.specs.Flat.{FlatEvent, Step}
+use Rattle.vm_model.specs.Flat.{FlatEvent, Step}
 use Rattle.bao_run.specs.Schedule.{flat_event, IsOfCoreZero, is_line, with_event, events_of, schedule_of}
 use Rattle.bao_run.specs.MatchSchedule.{Reads}
 use Rattle.bao_run.specs.declared.schedule.Event.{Event}
@@ -51,7 +51,7 @@ begins bytes few = record {
 -- the first line decides
 first_line : (low : ℕ) (rest : List ℕ) → 6 ≤ length rest
     → events_of low rest
-    ≡ (if is_line low (get_or rest 0 0) (get_or rest 1 0) (get_or rest 2 0) (get_or rest 3 0) (get_or rest 4 0) (get_or rest 5 0)
+    ≡ (if is_line low (take 6 rest)
     then with_event (Step 0 (get_or rest 4 0 - 48)) (events_of (get_or rest 4 0) (drop 6 rest)) else None)
 unfolding events_of
 first_line low [] six = absurd (omega arith)
@@ -81,19 +81,53 @@ none_left (a ∷ rest) none = absurd (omega arith)
 abbrev pub begins_with_line : ℕ → List ℕ → Bool
 begins_with_line low rest =
     nat_le 6 (length rest)
-    && is_line low (get_or rest 0 0) (get_or rest 1 0) (get_or rest 2 0) (get_or rest 3 0) (get_or rest 4 0) (get_or rest 5 0)
+    && is_line low (take 6 rest)
 
 both : (a b : Bool) → (a && b) ≡ true → (a ≡ true) × (b ≡ true)
 both true b h = (refl, h)
 both false b h = (h, cc)
 
 -- a line's digit is not below the one before
-digit_of_line : (low a b c d e f : ℕ) → is_line low a b c d e f ≡ true → low ≤ e
-digit_of_line low a b c d e f line = grind (arith, nat_tests)
+second : (a b c d : Bool) → (a && ((b && c) && d)) ≡ true → b ≡ true
+second true true c d h = refl
+second true false c d h = cc
+second false b c d h = cc
+
+digit_of_line : (low : ℕ) (rest : List ℕ) → 6 ≤ length rest → is_line low (take 6 rest) ≡ true → low ≤ get_or rest 4 0
+digit_of_line low rest six line =
+    let digit : nat_le low (get_or (take 6 rest) 4 0) ≡ true = second _ _ _ _ line in
+    let same : get_or (take 6 rest) 4 0 ≡ get_or rest 4 0 = get_or-take 6 rest 4 0 (omega arith) in
+    let le : low ≤ get_or (take 6 rest) 4 0 = grind (arith, nat_tests) in
+    omega (arith, le, same)
+
+-- the tests of a line, one after the other
+regroup : (a b c d low high end : Bool)
+    → ((a && (b && (c && (d && true)))) && ((low && high) && end)) ≡ (a && (b && (c && (d && (low && (high && end))))))
+regroup true true true true true high end = refl
+regroup true true true true false high end = refl
+regroup true true true false low high end = refl
+regroup true true false d low high end = refl
+regroup true false c d low high end = refl
+regroup false b c d low high end = refl
+
+pub line_tests : (low : ℕ) (text : List ℕ) → 6 ≤ length text
+    → is_line low (take 6 text)
+    ≡ ((get_or text 0 0 == 115)
+    && ((get_or text 1 0 == 32)
+    && ((get_or text 2 0 == 48)
+    && ((get_or text 3 0 == 32) && (nat_le low (get_or text 4 0) && (nat_le (get_or text 4 0) 57 && (get_or text 5 0 == 10)))))))
+line_tests low [] six = absurd (omega arith)
+line_tests low (a ∷ []) six = absurd (omega arith)
+line_tests low (a ∷ b ∷ []) six = absurd (omega arith)
+line_tests low (a ∷ b ∷ c ∷ []) six = absurd (omega arith)
+line_tests low (a ∷ b ∷ c ∷ d ∷ []) six = absurd (omega arith)
+line_tests low (a ∷ b ∷ c ∷ d ∷ e ∷ []) six = absurd (omega arith)
+line_tests low (a ∷ b ∷ c ∷ d ∷ e ∷ f ∷ rest) six =
+    regroup (a == 115) (b == 32) (c == 48) (d == 32) (nat_le low e) (nat_le e 57) (f == 10)
 
 module _ (bytes : List ℕ) (low : ℕ) (rest : List ℕ) (events : List Event) (reading : IsReading bytes low rest events) where
   no_line_by : (enough line : Bool) → nat_le 6 (length rest) ≡ enough
-      → is_line low (get_or rest 0 0) (get_or rest 1 0) (get_or rest 2 0) (get_or rest 3 0) (get_or rest 4 0) (get_or rest 5 0) ≡ line
+      → is_line low (take 6 rest) ≡ line
       → (enough && line) ≡ false → 0 < length rest → events_of low rest ≡ None
   no_line_by false line e l h some = no_line low rest (grind (arith, nat_tests)) some
   no_line_by true true e l h some = cc
@@ -104,7 +138,7 @@ module _ (bytes : List ℕ) (low : ℕ) (rest : List ℕ) (events : List Event) 
   stops h some =
       reading.spelled ∙ ap (before (map flat_event events))
       (no_line_by (nat_le 6 (length rest))
-      (is_line low (get_or rest 0 0) (get_or rest 1 0) (get_or rest 2 0) (get_or rest 3 0) (get_or rest 4 0) (get_or rest 5 0))
+      (is_line low (take 6 rest))
       refl refl h some)
 
   -- one line more was read
@@ -112,8 +146,8 @@ module _ (bytes : List ℕ) (low : ℕ) (rest : List ℕ) (events : List Event) 
       → IsReading bytes (get_or rest 4 0) (drop 6 rest) (events ++ event.Step 0 count ∷ [])
   goes_on count h here =
       let parts = both (nat_le 6 (length rest))
-      (is_line low (get_or rest 0 0) (get_or rest 1 0) (get_or rest 2 0) (get_or rest 3 0) (get_or rest 4 0) (get_or rest 5 0)) h in
-      let line : is_line low (get_or rest 0 0) (get_or rest 1 0) (get_or rest 2 0) (get_or rest 3 0) (get_or rest 4 0) (get_or rest 5 0)
+      (is_line low (take 6 rest)) h in
+      let line : is_line low (take 6 rest)
       ≡ true = parts.1 in
       let six : 6 ≤ length rest = grind (arith, nat_tests, parts.0) in
       record {
@@ -128,7 +162,7 @@ module _ (bytes : List ℕ) (low : ℕ) (rest : List ℕ) (events : List Event) 
         digit = omega (
           arith,
           reading.digit,
-          digit_of_line low (get_or rest 0 0) (get_or rest 1 0) (get_or rest 2 0) (get_or rest 3 0) (get_or rest 4 0) (get_or rest 5 0) line,
+          digit_of_line low rest six line,
         );
       }
 

@@ -1,19 +1,25 @@
--- The sample's packing lets through what its map does, so a step of the board is a step of the flat machine.
-use Rattle.std.proofs.Common.{◌≡◌, ℕ, ◌+◌, Bool, true, false, [], ◌∷◌, refl, sym, ap, subst, ◌∙◌, arith}
-use Rattle.std.specs.Prelude.{if◌then◌else◌, nat_le, nat_lt, ◌&&◌, slice_set, is_none}
+-- A core whose entries realise the map steps on the board as in the model; the sample's packing realises its map.
+use Rattle.std.proofs.Common.{◌≡◌, ℕ, ◌+◌, Bool, true, false, List, [], ◌∷◌, map, refl, sym, ap, subst, ◌∙◌, arith}
+use Rattle.std.specs.Prelude.{IsTrue, if◌then◌else◌, nat_le, nat_lt, ◌&&◌, ◌||◌, slice_set, is_none}
+use Rattle.std.specs.List.{find}
 use Rattle.std.proofs.lemmas.Bool.Decides.{nat_tests}
-use Rattle.bao_types.specs.declared.access.Access.{Access}
-use Rattle.bao_types.specs.declared.access.Access.TheVariants.{Read, Write, Exec}
-use Rattle.bao_types.specs.Region.{covers}
-use Rattle.pmsa_stage2.specs.Stage2.{stage2}
+use Rattle.bao_types.specs.ByteRange.{is_within, is_in_one}
+use Rattle.bao_types.specs.Region.{covers, matching_regions}
+use Rattle.bao_types.specs.Shape.{is_port_of, port_range}
+use Rattle.bao_config.specs.Data.{ConfigData, VmData}
+use Rattle.bao_config.specs.declared.config.PortPlace.{PortPlace}
+use Rattle.bao_wellformed.specs.Map.{has_port, is_platform_port, class_of, by_map}
 use Rattle.board.specs.declared.board.Exit.TheVariants as exit
-use Rattle.board.specs.Sample.{sample, sample_packing, sample_shape, hypervisor_entry, memory_entry, console_entry}
-use Rattle.bao_types.specs.ByteRange.{is_within}
-use Rattle.board.specs.Map.{is_platform_port}
-use Rattle.board.specs.Stage2.{by_map, by_entries}
 use Rattle.board.specs.Attempt.{reach_of, attempt, core_of, stored_of}
 use Rattle.board.specs.Machine.{Machine, core_at, entries_at, is_port, written, machine_reach, step_attempt, stepped, step_is_unbuilt}
-use Rattle.board.specs.Flat.{On, Step, project, flat_reach, flat_attempt, flat_step, is_event_unbuilt}
+use Rattle.vm_model.specs.Flat.{Power, On, Step, runs, flat_reach, flat_attempt, flat_stepped, flat_step, is_event_unbuilt}
+use Rattle.vm_model.specs.Project.{project}
+use Rattle.report.specs.Sample.{sample}
+use Rattle.bao_run.specs.Sample.{sample_packing, hypervisor_entry, memory_entry, console_entry}
+use Rattle.bao_run.specs.Shape.{core_mask, shape_of}
+use Rattle.bao_run.specs.Realises.{AreOfClass, Realises}
+use Rattle.bao_run.specs.Steps.{IsStepAlike, StepsAlike}
+use Rattle.bao_run.proofs.Realises.{verdicts_alike}
 
 -- a test up to the last number is one below the next
 up_to : (a n : ℕ) → nat_le a n ≡ nat_lt a (n + 1)
@@ -28,7 +34,7 @@ in_memory at = ap (λ b. nat_le 0x100000 at && b) (up_to at 0x10ffff)
 in_console : (at : ℕ) → covers console_entry at ≡ is_within (record { base = 0x9c090000; size = 64 }) at
 in_console at = ap (λ b. nat_le 0x9c090000 at && b) (up_to at 0x9c09003f)
 
--- the two stages agree at a byte, by the tests of the three ranges
+-- the entries at a byte, by the tests of the three ranges
 module _ (at : ℕ) where
   abbrev hypervisor_test : Bool
   hypervisor_test = is_within (record { base = 0; size = 0x10000 }) at
@@ -39,76 +45,88 @@ module _ (at : ℕ) where
   abbrev console_test : Bool
   console_test = is_within (record { base = 0x9c090000; size = 64 }) at
 
-  by_tests : (access : Access) (h m p : Bool) → hypervisor_test ≡ h → memory_test ≡ m → console_test ≡ p
+  by_tests : (h m p : Bool) → hypervisor_test ≡ h → memory_test ≡ m → console_test ≡ p
       → covers hypervisor_entry at ≡ h → covers memory_entry at ≡ m → covers console_entry at ≡ p
-      → stage2 sample_packing access at ≡ by_map sample 0 access at
-  unfolding stage2 by_map
-  by_tests access true true p eh em ep ch cm cp = absurd (grind (arith, nat_tests))
-  by_tests access true false true eh em ep ch cm cp = absurd (grind (arith, nat_tests))
-  by_tests access false true true eh em ep ch cm cp = absurd (grind (arith, nat_tests))
-  by_tests Read true false false eh em ep ch cm cp = rw (ch, cm, cp, eh) refl
-  by_tests Write true false false eh em ep ch cm cp = rw (ch, cm, cp, eh) refl
-  by_tests Exec true false false eh em ep ch cm cp = rw (ch, cm, cp, eh) refl
-  by_tests Read false true false eh em ep ch cm cp = rw (ch, cm, cp, eh, em, ep) refl
-  by_tests Write false true false eh em ep ch cm cp = rw (ch, cm, cp, eh, em, ep) refl
-  by_tests Exec false true false eh em ep ch cm cp = rw (ch, cm, cp, eh, em, ep) refl
-  by_tests Read false false true eh em ep ch cm cp = rw (ch, cm, cp, eh, ep) refl
-  by_tests Write false false true eh em ep ch cm cp = rw (ch, cm, cp, eh, ep) refl
-  by_tests Exec false false true eh em ep ch cm cp = rw (ch, cm, cp, eh, ep) refl
-  by_tests Read false false false eh em ep ch cm cp = rw (ch, cm, cp, eh, em, ep) refl
-  by_tests Write false false false eh em ep ch cm cp = rw (ch, cm, cp, eh, em, ep) refl
-  by_tests Exec false false false eh em ep ch cm cp = rw (ch, cm, cp, eh, em, ep) refl
+      → AreOfClass (class_of sample 0 at) (matching_regions sample_packing at)
+  by_tests true true p eh em ep ch cm cp = absurd (grind (arith, nat_tests))
+  by_tests true false true eh em ep ch cm cp = absurd (grind (arith, nat_tests))
+  by_tests false true true eh em ep ch cm cp = absurd (grind (arith, nat_tests))
+  by_tests true false false eh em ep ch cm cp =
+      rw (ch, cm, cp, eh) (record { entry = hypervisor_entry; alone = refl; base = refl; limit = refl })
+  by_tests false true false eh em ep ch cm cp =
+      rw (ch, cm, cp, eh, em, ep) (record { entry = memory_entry; alone = refl; base = refl; limit = refl })
+  by_tests false false true eh em ep ch cm cp =
+      rw (ch, cm, cp, eh, ep) (record { entry = console_entry; alone = refl; base = refl; limit = refl })
+  by_tests false false false eh em ep ch cm cp = rw (ch, cm, cp, eh, em, ep) refl
 
-  at_byte : (access : Access) → stage2 sample_packing access at ≡ by_map sample 0 access at
-  at_byte access =
-      by_tests access hypervisor_test memory_test console_test refl refl refl
-      (in_hypervisor at) (in_memory at) (in_console at)
+-- the packing realises the map
+pub realises : Realises sample_packing sample 0
+realises at =
+    by_tests at (hypervisor_test at) (memory_test at) (console_test at) refl refl refl
+    (in_hypervisor at) (in_memory at) (in_console at)
 
--- the packing gives each access to each byte the verdict of the map
-pub realises : by_entries sample_packing ≡ by_map sample 0
-realises = λ i access at. at_byte at access i
+-- the ports that the board of a configuration has are those of its platform
+ports_alike : (vms : List VmData) (ports : List PortPlace) (at : ℕ)
+    → is_port_of (map (λ port. record {
+      id = port.id;
+      base = port.base;
+      spi = port.spi;
+      cores = core_mask (find (has_port port.id) vms);
+    }) ports) at
+    ≡ is_in_one (λ port. port_range port.base) ports at
+ports_alike vms [] at = refl
+ports_alike vms (port ∷ ports) at = ap (λ b. is_within (port_range port.base) at || b) (ports_alike vms ports at)
 
--- what the core of a board that is packed reaches is what it reaches by the map
-pub reach_alike : (m : Machine) → m.entries ≡ sample_packing ∷ [] → m.shape ≡ sample_shape m.shape.events
-    → machine_reach m 0 ≡ flat_reach sample (project (On ∷ []) m) 0
-reach_alike m packed shaped =
-    ap (λ entries. reach_of (by_entries (entries_at entries 0)) (is_port m.shape) m.bytes) packed
-    ∙ ap (λ shape. reach_of (by_entries sample_packing) (is_port shape) m.bytes) shaped
-    ∙ ap (λ stage2. reach_of stage2 (is_platform_port sample) m.bytes) realises
+-- a core whose entries realise the map
+module _ (cfg : ConfigData) (m : Machine) (powers : List Power) (core now : ℕ)
+    (realised : Realises (entries_at m.entries core) cfg core) (shaped : m.shape ≡ shape_of cfg m.shape.events)
+    (running : IsTrue (runs cfg (project powers m) core)) where
+  -- what it reaches is what it reaches by the map
+  reach_alike : machine_reach m core ≡ flat_reach cfg (project powers m) core
+  reach_alike =
+      ap (λ stage2. reach_of stage2 (is_port m.shape) m.bytes) (verdicts_alike (entries_at m.entries core) cfg core realised)
+      ∙ ap (λ shape. reach_of (by_map cfg core) (is_port shape) m.bytes) shaped
+      ∙ ap (λ ports. reach_of (by_map cfg core) ports m.bytes) (λ i at. ports_alike cfg.vms cfg.platform.ports at i)
 
--- the core's next step does for the board what it does for the flat machine
-pub attempt_alike : (m : Machine) (now : ℕ) → m.entries ≡ sample_packing ∷ [] → m.shape ≡ sample_shape m.shape.events
-    → step_attempt m 0 now ≡ flat_attempt sample (project (On ∷ []) m) 0 now
-attempt_alike m now packed shaped =
-    ap (λ reach. attempt reach (core_at m.cores 0) now) (reach_alike m packed shaped)
+  -- so its next step does for the board what it does for the flat machine
+  attempt_alike : step_attempt m core now ≡ flat_attempt cfg (project powers m) core now
+  attempt_alike = ap (λ reach. attempt reach (core_at m.cores core) now) reach_alike
 
--- it is built for the one where it is for the other
-pub unbuilt_alike : (m : Machine) (now : ℕ) → m.entries ≡ sample_packing ∷ [] → m.shape ≡ sample_shape m.shape.events
-    → step_is_unbuilt m 0 now ≡ is_event_unbuilt sample (project (On ∷ []) m) (Step 0 now)
-unbuilt_alike m now packed shaped = ap (λ a. is_none a) (attempt_alike m now packed shaped)
+  pub unbuilt_alike : step_is_unbuilt m core now ≡ is_event_unbuilt cfg (project powers m) (Step core now)
+  unbuilt_alike =
+      ap (λ a. is_none a) attempt_alike
+      ∙ sym (ap (λ r. r && is_none (flat_attempt cfg (project powers m) core now)) running)
 
--- a step of the board is a step of the flat machine
-pub stepped_alike : (m : Machine) (now : ℕ) → m.entries ≡ sample_packing ∷ [] → m.shape ≡ sample_shape m.shape.events
-    → project (On ∷ []) (stepped m 0 now) ≡ flat_step sample (project (On ∷ []) m) (Step 0 now)
-stepped_alike m now packed shaped =
-    ap (λ a. project (On ∷ []) (record m {
-      bytes = written (stored_of a) m.bytes;
-      cores = slice_set m.cores 0 (core_of (core_at m.cores 0) a);
-      count = now;
-    })) (attempt_alike m now packed shaped)
+  pub stepped_alike : project powers (stepped m core now) ≡ flat_step cfg (project powers m) (Step core now)
+  stepped_alike =
+      ap (λ a. project powers (record m {
+        bytes = written (stored_of a) m.bytes;
+        cores = slice_set m.cores core (core_of (core_at m.cores core) a);
+        count = now;
+      })) attempt_alike
+      ∙ sym (ap (λ r. if r then flat_stepped cfg (project powers m) core now else project powers m) running)
 
--- the same for a core that is core 0
+-- a step of the board is a step of the model
+pub steps_alike : StepsAlike
+steps_alike cfg m powers core now realised shaped running =
+    record {
+      state = stepped_alike cfg m powers core now realised shaped running;
+      unbuilt = unbuilt_alike cfg m powers core now realised shaped running;
+    }
+
+-- the sample's core, which is core 0
 module _ (m : Machine) (core now : ℕ) (own : core ≡ 0) (packed : m.entries ≡ sample_packing ∷ [])
-    (shaped : m.shape ≡ sample_shape m.shape.events) where
+    (shaped : m.shape ≡ shape_of sample m.shape.events) where
+  alike : IsStepAlike sample m (On ∷ []) core now
+  alike =
+      subst (λ c. IsStepAlike sample m (On ∷ []) c now) (sym own)
+      (steps_alike sample m (On ∷ []) 0 now (subst (λ entries. Realises (entries_at entries 0) sample 0) (sym packed) realises) shaped refl)
+
   pub unbuilt_alike_at : step_is_unbuilt m core now ≡ is_event_unbuilt sample (project (On ∷ []) m) (Step core now)
-  unbuilt_alike_at =
-      subst (λ c. step_is_unbuilt m c now ≡ is_event_unbuilt sample (project (On ∷ []) m) (Step c now)) (sym own)
-      (unbuilt_alike m now packed shaped)
+  unbuilt_alike_at = alike.unbuilt
 
   pub stepped_alike_at : project (On ∷ []) (stepped m core now) ≡ flat_step sample (project (On ∷ []) m) (Step core now)
-  stepped_alike_at =
-      subst (λ c. project (On ∷ []) (stepped m c now) ≡ flat_step sample (project (On ∷ []) m) (Step c now)) (sym own)
-      (stepped_alike m now packed shaped)
+  stepped_alike_at = alike.state
 
 -- what an exit says of the step
 pub ran_is_built : (unbuilt : Bool) → exit.Ran ≡ (if unbuilt then exit.Unbuilt else exit.Ran) → false ≡ unbuilt

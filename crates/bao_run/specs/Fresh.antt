@@ -1,16 +1,18 @@
 -- The board of the one configuration that is accepted: freshly fitted, and as boot leaves it.
 use Rattle.std.specs.Prelude.{◌≡◌, ℕ, true, List, [], ◌∷◌, replicate}
+use Rattle.bao_types.specs.Region.{no_region}
 use Rattle.a64_state.specs.Registers.{reset_core}
 use Rattle.board.specs.Machine.{Machine, over}
-use Rattle.bao_types.specs.Region.{no_region}
-use Rattle.board.specs.Sample.{sample_shape, sample_packing}
+use Rattle.report.specs.Sample.{sample}
+use Rattle.bao_run.specs.Shape.{shape_of}
+use Rattle.bao_run.specs.Sample.{sample_packing}
 
 -- fitted for so many events, with ports that have put out nothing
 abbrev pub fresh_machine : ℕ → Machine
 fresh_machine events =
     record {
       fitted = true;
-      shape = sample_shape events;
+      shape = shape_of sample events;
       bytes = λ at. 0;
       cores = reset_core 0 ∷ [];
       entries = replicate 16 no_region ∷ [];
@@ -25,7 +27,7 @@ abbrev pub booted_machine : ℕ → List ℕ → Machine
 booted_machine events image =
     record {
       fitted = true;
-      shape = sample_shape events;
+      shape = shape_of sample events;
       bytes = over 0x100000 image (λ at. 0);
       cores = record (reset_core 0) { pc = 0x100000 } ∷ [];
       entries = sample_packing ∷ [];
@@ -38,5 +40,5 @@ booted_machine events image =
 -- the board is fitted with the sample's shape, and its core has the packing
 pub record IsReady (m : Machine) : Type 0 where
   pub fitted : m.fitted ≡ true
-  pub shape : m.shape ≡ sample_shape m.shape.events
+  pub shape : m.shape ≡ shape_of sample m.shape.events
   pub entries : m.entries ≡ sample_packing ∷ []

@@ -1,11 +1,16 @@
+pub mod Sample
+pub mod Shape
 pub mod Words
 pub mod Command
 pub mod Schedule
 pub mod MatchSchedule
+pub mod Call
 pub mod Ruling
 pub mod Fresh
 pub mod Input
 pub mod Outcome
 pub mod Play
+pub mod Realises
+pub mod Steps
 pub mod Answers
 pub mod SureAnswers

@@ -1,64 +1,80 @@
 -- What the parts of a run answer, between the reading of the files and the report.
-use Rattle.std.specs.Prelude.{◌≡◌, ℕ, ◌≤◌, true, false, List, All, Result, Ok, Err, Option, Some, length}
-use Rattle.outside.specs.Faults.{risen}
-use Rattle.outside.specs.Sink.{grown, TakesPart}
+use Rattle.std.specs.Prelude.{◌≡◌, ℕ, true, false, List, [], ◌∷◌, Result, Ok, Err, Option, None, Some, length}
+use Rattle.bao_types.specs.declared.memory.OutOfMemory.{OutOfMemory}
 use Rattle.report.specs.declared.status.Part.TheVariants as part
 use Rattle.report.specs.declared.status.Status.{Status}
 use Rattle.report.specs.declared.status.Status.TheVariants as status
 use Rattle.report.specs.Section.{report}
 use Rattle.report.specs.Status.{refusal_text}
-use Rattle.board.specs.Sample.{sample}
 use Rattle.board.specs.Machine.{Machine}
-use Rattle.board.specs.Flat.{FlatEvent, first_unbuilt}
-use Rattle.bao_run.specs.Schedule.{IsOfCoreZero}
+use Rattle.vm_model.specs.Flat.{Flat, flat_run, entered_count, first_unbuilt}
+use Rattle.vm_model.specs.Boot.{boot}
+use Rattle.vm_model.specs.Project.{project}
+use Rattle.bao_run.specs.Call.{InputData, SinkUse, BoardUse, IsTaken, IsCut, IsPut}
+use Rattle.bao_run.specs.Shape.{shape_of}
+use Rattle.bao_run.specs.Sample.{sample_packing}
 use Rattle.bao_run.specs.Fresh.{booted_machine}
-use Rattle.bao_run.specs.Outcome.{booted, final, IsRunThrough, IsPut}
-use Rattle.bao_types.specs.declared.memory.OutOfMemory.{OutOfMemory}
-use Rattle.bao_run.specs.declared.input.Input.{Input}
 
--- the image fits its VM's room, and the events are steps of core 0, a million at most
-pub record CanPlay (input : Input) : Type 0 where
-  pub image : length input.image.items ≤ 0x8000
-  pub own : All IsOfCoreZero input.events.items
-  pub few : length input.events.items ≤ 1000000
+-- the machine of the model at boot, and after all events
+abbrev pub booted : InputData → Flat
+booted input = boot input.cfg input.images
 
--- the board is booted, or memory ran out and it isn't fitted
-abbrev pub IsStarted : List ℕ → ℕ → Machine → Machine → Result (Unit {0}) OutOfMemory → Type 0
-IsStarted image events before after (Ok _) = after ≡ booted_machine events image
-IsStarted image events before after (Err _) = (after.fitted ≡ false) × (after.console ≡ before.console)
+abbrev pub final : InputData → Flat
+final input = flat_run input.cfg (booted input) input.events
+
+-- the number of the first event that does something that isn't built
+abbrev pub first_halt : InputData → Option ℕ
+first_halt input = first_unbuilt input.cfg (booted input) 0 input.events
+
+-- All events were run: the board has the shape of the configuration for so many events; its core has the packing, with zero
+-- entries after it; each event whose core ran has entered it; and memory, cores and consoles are those of the model.
+pub record IsRunThrough (m : Machine) (input : InputData) : Type 0 where
+  pub fitted : m.fitted ≡ true
+  pub shape : m.shape ≡ shape_of input.cfg (length input.events)
+  pub entries : m.entries ≡ sample_packing ∷ []
+  pub entered : m.entered ≡ entered_count input.cfg (booted input) input.events
+  pub state : project (booted input).powers m ≡ final input
+  pub built : first_halt input ≡ None
+
+-- the board isn't fitted, and its ports' states are as before
+abbrev pub IsUnfitted : BoardUse → Type 0
+IsUnfitted board = (board.after.fitted ≡ false) × (board.after.console ≡ board.before.console)
+
+-- the board is booted, or memory ran out
+abbrev pub IsStarted : List ℕ → ℕ → BoardUse → Result (Unit {0}) OutOfMemory → Type 0
+IsStarted image events board (Ok _) = board.after ≡ booted_machine events image
+IsStarted image events board (Err _) = IsUnfitted board
 
 -- all was run and the report was put out
-pub record IsAllPlayed (image : List ℕ) (events : List FlatEvent) (after : Machine) (taken taken' : Option (List ℕ)) (faults faults' : ℕ) : Type 0 where
-  pub board : IsRunThrough after image events
-  pub text : taken' ≡ grown taken (report sample (final image events))
-  pub faultless : faults' ≡ faults
+pub record IsFinished (input : InputData) (used : BoardUse) (sink : SinkUse) : Type 0 where
+  pub board : IsRunThrough used.after input
+  pub text : IsTaken sink (report input.cfg (final input))
 
 -- all was run and the sink failed at the report
-pub record IsCutShort (image : List ℕ) (events : List FlatEvent) (after : Machine) (taken taken' : Option (List ℕ)) (faults faults' : ℕ) : Type 0 where
-  pub board : IsRunThrough after image events
-  pub text : TakesPart taken taken' (report sample (final image events))
-  pub rose : faults' ≡ risen faults
+pub record IsCutShort (input : InputData) (used : BoardUse) (sink : SinkUse) : Type 0 where
+  pub board : IsRunThrough used.after input
+  pub text : IsCut sink (report input.cfg (final input))
 
--- the event of this number does something that isn't built
-pub record IsHalted (number : ℕ) (image : List ℕ) (events : List FlatEvent) (after : Machine) (taken taken' : Option (List ℕ)) (faults faults' : ℕ) : Type 0 where
-  pub unbuilt : first_unbuilt sample (booted image) 0 events ≡ Some number
-  pub fitted : after.fitted ≡ true
-  pub line : IsPut taken taken' faults faults' (refusal_text (status.NotBuilt (part.Event number)))
+-- the event of this number is the first that does something that isn't built
+pub record IsHalted (number : ℕ) (input : InputData) (board : BoardUse) (sink : SinkUse) : Type 0 where
+  pub unbuilt : first_halt input ≡ Some number
+  pub fitted : board.after.fitted ≡ true
+  pub line : IsPut sink (refusal_text (status.NotBuilt (part.Event number)))
 
 -- memory ran out while the board was fitted
-pub record IsStarved (before after : Machine) (taken taken' : Option (List ℕ)) (faults faults' : ℕ) : Type 0 where
-  pub unfitted : after.fitted ≡ false
-  pub console : after.console ≡ before.console
-  pub line : IsPut taken taken' faults faults' (refusal_text status.OutOfMemory)
+pub record IsStarved (board : BoardUse) (sink : SinkUse) : Type 0 where
+  pub unfitted : IsUnfitted board
+  pub line : IsPut sink (refusal_text status.OutOfMemory)
 
 -- by the status of a run: what it left of the board and the sink
-abbrev pub IsPlayed : List ℕ → List FlatEvent → Machine → Machine → Option (List ℕ) → Option (List ℕ) → ℕ → ℕ → Status → Type 0
-IsPlayed image events before after taken taken' faults faults' status.Done =
-    IsAllPlayed image events after taken taken' faults faults'
-IsPlayed image events before after taken taken' faults faults' status.WriteFault =
-    IsCutShort image events after taken taken' faults faults'
-IsPlayed image events before after taken taken' faults faults' status.OutOfMemory =
-    IsStarved before after taken taken' faults faults'
-IsPlayed image events before after taken taken' faults faults' (status.NotBuilt (part.Event number)) =
-    IsHalted number image events after taken taken' faults faults'
-IsPlayed image events before after taken taken' faults faults' _ = ⊥
+abbrev pub IsPlayed : InputData → BoardUse → SinkUse → Status → Type 0
+IsPlayed input board sink status.Done = IsFinished input board sink
+IsPlayed input board sink status.Usage = ⊥
+IsPlayed input board sink (status.ReadFault file) = ⊥
+IsPlayed input board sink (status.TooLong file limit) = ⊥
+IsPlayed input board sink status.WriteFault = IsCutShort input board sink
+IsPlayed input board sink status.OutOfMemory = IsStarved board sink
+IsPlayed input board sink (status.NotBuilt part.Words) = ⊥
+IsPlayed input board sink (status.NotBuilt part.Config) = ⊥
+IsPlayed input board sink (status.NotBuilt part.Schedule) = ⊥
+IsPlayed input board sink (status.NotBuilt (part.Event number)) = IsHalted number input board sink

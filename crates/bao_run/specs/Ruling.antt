@@ -1,25 +1,24 @@
 -- What words and contents rule, in the order in which things are looked at.
-use Rattle.std.specs.Prelude.{ℕ, nat_lt, Bool, if◌then◌else◌, List, length, Option, None, Some, codes}
+use Rattle.std.specs.Prelude.{ℕ, nat_lt, Bool, if◌then◌else◌, List, [], ◌∷◌, length, Option, None, Some, codes}
 use Rattle.report.specs.declared.status.FileId.{FileId}
 use Rattle.report.specs.declared.status.FileId.TheVariants as file
 use Rattle.report.specs.declared.status.Part.{Part}
 use Rattle.report.specs.declared.status.Part.TheVariants as part
 use Rattle.report.specs.declared.status.Status.{Status}
 use Rattle.report.specs.declared.status.Status.TheVariants as status
-use Rattle.board.specs.Flat.{FlatEvent}
+use Rattle.report.specs.Sample.{sample}
+use Rattle.bao_config.specs.Data.{ConfigData}
+use Rattle.vm_model.specs.Flat.{FlatEvent}
 use Rattle.bao_run.specs.Words.{Command, Run, Unbuilt, Unknown, command_of, same}
+use Rattle.bao_run.specs.Call.{InputData, Files}
 use Rattle.bao_run.specs.Schedule.{schedule_of}
 use Rattle.bao_run.specs.declared.config.TheConstants.{SAMPLE_TEXT}
 
--- the contents that a shelf tells, by name; none for a name that is missing
-abbrev pub Files : Type 0
-Files = List ℕ → Option (List ℕ)
-
--- a refusal, a file that is missing, or an image and events to run
+-- a refusal, a file that is missing, or an input to run
 pub data Ruling : Type 0 where
   Refused : Status → Ruling
   Missing : FileId → Ruling
-  Accept : (image : List ℕ) (events : List FlatEvent) → Ruling
+  Accept : InputData → Ruling
 
 -- how many bytes a configuration, the image and a schedule may have
 abbrev pub config_limit : ℕ
@@ -41,21 +40,21 @@ too_long file limit = Refused (status.TooLong file limit)
 abbrev pub not_built : Part → Ruling
 not_built part = Refused (status.NotBuilt part)
 
-abbrev pub rule_events : List ℕ → Option (List FlatEvent) → Ruling
-rule_events image None = not_built part.Schedule
-rule_events image (Some events) = Accept image events
+abbrev pub rule_events : ConfigData → List (List ℕ) → Option (List FlatEvent) → Ruling
+rule_events cfg images None = not_built part.Schedule
+rule_events cfg images (Some events) = Accept (record { cfg = cfg; images = images; events = events })
 
-abbrev pub rule_schedule : List ℕ → Option (List ℕ) → Ruling
-rule_schedule image None = Missing file.Schedule
-rule_schedule image (Some bytes) =
+abbrev pub rule_schedule : ConfigData → List (List ℕ) → Option (List ℕ) → Ruling
+rule_schedule cfg images None = Missing file.Schedule
+rule_schedule cfg images (Some bytes) =
     if nat_lt schedule_limit (length bytes) then too_long file.Schedule schedule_limit
-    else rule_events image (schedule_of bytes)
+    else rule_events cfg images (schedule_of bytes)
 
 abbrev pub rule_image : Files → List ℕ → Option (List ℕ) → Ruling
 rule_image files schedule None = Missing (file.Image 0)
 rule_image files schedule (Some image) =
     if nat_lt image_limit (length image) then too_long (file.Image 0) image_limit
-    else rule_schedule image (files schedule)
+    else rule_schedule sample (image ∷ []) (files schedule)
 
 -- the bytes are the one configuration that is accepted
 abbrev pub is_sample : List ℕ → Bool

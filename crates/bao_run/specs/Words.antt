@@ -1,5 +1,5 @@
 -- The words of the command line.
-use Rattle.std.specs.Prelude.{ℕ, ◌+◌, ◌-◌, ◌*◌, ◌^◌, ◌==◌, ◌&&◌, nat_lt, not, Bool, true, false, if◌then◌else◌, List, [], ◌∷◌, codes, fold}
+use Rattle.std.specs.Prelude.{ℕ, ◌+◌, ◌-◌, ◌*◌, ◌^◌, ◌==◌, ◌&&◌, ◌||◌, nat_lt, not, Bool, true, false, if◌then◌else◌, List, [], ◌∷◌, codes, fold}
 use Rattle.std.specs.Cmp.Lexicographic.{pointwise}
 use Rattle.std.specs.List.{list_all}
 use Rattle.std.specs.Char.{is_ascii_digit}
@@ -28,29 +28,14 @@ has_no_leading_zero (first ∷ second ∷ digits) = not (first == 48)
 abbrev pub is_number : List ℕ → Bool
 is_number text = has_no_leading_zero text && (list_all is_ascii_digit text && nat_lt (value_of text) (2 ^ 32))
 
--- behind `run` stand a configuration and a schedule
-abbrev pub run_of : List (List ℕ) → Command
-run_of [] = Unknown
-run_of (config ∷ []) = Unknown
-run_of (config ∷ schedule ∷ []) = Run config schedule
-run_of (config ∷ schedule ∷ other ∷ rest) = Unknown
+-- `check` with a configuration, or `gen` with a number
+abbrev pub is_unbuilt : List ℕ → List ℕ → Bool
+is_unbuilt verb word = same verb (codes "check") || (same verb (codes "gen") && is_number word)
 
--- behind `check` stands a configuration
-abbrev pub check_of : List (List ℕ) → Command
-check_of [] = Unknown
-check_of (config ∷ []) = Unbuilt
-check_of (config ∷ other ∷ rest) = Unknown
-
--- behind `gen` stands a number
-abbrev pub gen_of : List (List ℕ) → Command
-gen_of [] = Unknown
-gen_of (number ∷ []) = if is_number number then Unbuilt else Unknown
-gen_of (number ∷ other ∷ rest) = Unknown
-
+-- by how many words there are: `run` has a configuration and a schedule after it
 abbrev pub command_of : List (List ℕ) → Command
 command_of [] = Unknown
-command_of (verb ∷ rest) =
-    if same verb (codes "run") then run_of rest
-    else if same verb (codes "check") then check_of rest
-    else if same verb (codes "gen") then gen_of rest
-    else Unknown
+command_of (verb ∷ []) = Unknown
+command_of (verb ∷ word ∷ []) = if is_unbuilt verb word then Unbuilt else Unknown
+command_of (verb ∷ config ∷ schedule ∷ []) = if same verb (codes "run") then Run config schedule else Unknown
+command_of (verb ∷ config ∷ schedule ∷ other ∷ rest) = Unknown

@@ -1,6 +1,5 @@
-ghost use Rattle.std.specs.Prelude.{◌≡◌, ◌≤◌, length};
-ghost use Rattle.bao_run.specs.Ruling.{rule_config, rule_image, rule_schedule, image_name};
-ghost use Rattle.bao_run.specs.Input.{IsAnswer, IsFetch, name_of};
+ghost use Rattle.std.specs.Prelude.{◌≡◌};
+ghost use Rattle.bao_run.specs.Input.{IsAnswer, IsFetch};
 
 use crate::config::is_sample;
 use crate::reading::read_schedule;
@@ -34,46 +33,19 @@ pub fn read_input<S: Shelf>(
     schedule: &str,
 ) -> Result<Input, Status>
     ensures held { S.held shelf.new ≡ S.held shelf.old }
-    ensures answer { IsAnswer (S.held shelf.old) (λ files. rule_config files schedule.now (files config.now))
-        (name_of config.now schedule.now) (S.faults shelf.old) (S.faults shelf.new) (S.culprit shelf.new) result }
+    ensures answer { IsAnswer (record {
+      held = S.held shelf.old;
+      before = record { faults = S.faults shelf.old; culprit = S.culprit shelf.old };
+      after = record { faults = S.faults shelf.new; culprit = S.culprit shelf.new };
+    }) config.now schedule.now result }
 {
-    let bytes = fetch(alloc, shelf, FileId::Config, config, CONFIG_LIMIT)?;
-    if !is_sample(&bytes) {
+    let text = fetch(alloc, shelf, FileId::Config, config, CONFIG_LIMIT)?;
+    if !is_sample(&text) {
         return Err(Status::NotBuilt { part: Part::Config });
     }
-    read_image(alloc, shelf, config, schedule)
-}
-
-/// Reads the image and the schedule. The configuration is named for the proof alone.
-fn read_image<S: Shelf>(
-    alloc: Global,
-    shelf: &mut S,
-    config: &str,
-    schedule: &str,
-) -> Result<Input, Status>
-    ensures held { S.held shelf.new ≡ S.held shelf.old }
-    ensures answer { IsAnswer (S.held shelf.old) (λ files. rule_image files schedule.now (files image_name))
-        (name_of config.now schedule.now) (S.faults shelf.old) (S.faults shelf.new) (S.culprit shelf.new) result }
-{
     let image = fetch(alloc, shelf, FileId::Image(0), "a.bin", IMAGE_LIMIT)?;
-    read_events(alloc, shelf, config, schedule, image)
-}
-
-/// Reads the schedule.
-fn read_events<S: Shelf>(
-    alloc: Global,
-    shelf: &mut S,
-    _config: &str,
-    schedule: &str,
-    image: Vec<u8>,
-) -> Result<Input, Status>
-    requires { length image.items ≤ 0x8000 }
-    ensures held { S.held shelf.new ≡ S.held shelf.old }
-    ensures answer { IsAnswer (S.held shelf.old) (λ files. rule_schedule image.items (files schedule.now))
-        (name_of _config.now schedule.now) (S.faults shelf.old) (S.faults shelf.new) (S.culprit shelf.new) result }
-{
-    let bytes = fetch(alloc, shelf, FileId::Schedule, schedule, SCHEDULE_LIMIT)?;
-    let events = read_schedule(alloc, &bytes)?;
+    let lines = fetch(alloc, shelf, FileId::Schedule, schedule, SCHEDULE_LIMIT)?;
+    let events = read_schedule(alloc, &lines)?;
     Ok(Input { image, events })
 }
 
@@ -86,8 +58,11 @@ fn fetch<S: Shelf>(
     limit: u32,
 ) -> Result<Vec<u8>, Status>
     ensures held { S.held shelf.new ≡ S.held shelf.old }
-    ensures answer { IsFetch (S.held shelf.old) file name.now limit
-        (S.faults shelf.old) (S.faults shelf.new) (S.culprit shelf.new) result }
+    ensures answer { IsFetch (record {
+      held = S.held shelf.old;
+      before = record { faults = S.faults shelf.old; culprit = S.culprit shelf.old };
+      after = record { faults = S.faults shelf.new; culprit = S.culprit shelf.new };
+    }) (record { file = file; name = name.now; limit = limit }) result }
 {
     match shelf.fetch(alloc, name, limit) {
         Ok(bytes) => Ok(bytes),

@@ -13,6 +13,8 @@ mod sure;
 mod top;
 mod words;
 
-pub use packing::the_packing_realises_the_map;
+pub use packing::{
+    a_core_steps_as_in_the_model, entries_have_the_verdicts_of_the_map, the_packing_realises_the_map,
+};
 pub use sure::complete_over_a_sure_shelf;
 pub use top::run_bao;

@@ -1,8 +1,12 @@
 ghost use Rattle.std.specs.Prelude.{◌≡◌, ◌≤◌, ◌<◌, ◌+◌, ◌∷◌, [], length, replicate, true, false};
-ghost use Rattle.bao_types.specs.Shape.{shape_data};
 ghost use Rattle.bao_types.specs.Region.{no_region};
-ghost use Rattle.board.specs.Sample.{sample, sample_shape, sample_packing};
-ghost use Rattle.board.specs.Flat.{project, On, Step, flat_step, is_event_unbuilt};
+ghost use Rattle.bao_types.specs.Shape.{shape_data};
+ghost use Rattle.report.specs.Sample.{sample};
+ghost use Rattle.bao_run.specs.Ruling.{image_limit};
+ghost use Rattle.bao_run.specs.Sample.{sample_packing};
+ghost use Rattle.bao_run.specs.Shape.{shape_of};
+ghost use Rattle.vm_model.specs.Flat.{On, Step, flat_step, is_event_unbuilt};
+ghost use Rattle.vm_model.specs.Project.{project};
 ghost use Rattle.bao_run.specs.Schedule.{flat_event, IsOfCoreZero};
 ghost use Rattle.bao_run.specs.Fresh.{fresh_machine, booted_machine, IsReady};
 
@@ -31,7 +35,7 @@ const CONSOLE: Region = Region {
 
 /// The shape of the one configuration that is accepted, for so many events.
 pub fn sample_shape(events: u32) -> Shape
-    ensures { shape_data result ≡ sample_shape events }
+    ensures { shape_data result ≡ shape_of sample events }
 {
     let mut shape = Shape::default();
     shape.events = events;
@@ -59,7 +63,7 @@ pub fn sample_shape(events: u32) -> Shape
 /// Boots the one configuration that is accepted, on a board that was just fitted for it.
 pub fn boot<B: Board>(board: &mut B, image: &[u8])
     requires fresh { B.state board.old ≡ fresh_machine (B.state board.old).shape.events }
-    requires image { length image.now ≤ 0x8000 }
+    requires image { length image.now ≤ image_limit }
     ensures { B.state board.new ≡ booted_machine (B.state board.old).shape.events image.now }
 {
     board.load(0x10_0000, image);
@@ -71,7 +75,7 @@ pub fn boot<B: Board>(board: &mut B, image: &[u8])
 fn set_entries<B: Board>(board: &mut B)
     requires fitted { (B.state board.old).fitted ≡ true }
     requires at_rest { (B.state board.old).entered ≡ 0 }
-    requires shape { (B.state board.old).shape ≡ sample_shape (B.state board.old).shape.events }
+    requires shape { (B.state board.old).shape ≡ shape_of sample (B.state board.old).shape.events }
     requires zero { (B.state board.old).entries ≡ replicate 16 no_region ∷ [] }
     ensures { B.state board.new ≡ record (B.state board.old) { entries = sample_packing ∷ [] } }
 {
@@ -90,7 +94,7 @@ pub fn take_event<B: Board>(board: &mut B, event: &Event) -> bool
     ensures unbuilt { result ≡ is_event_unbuilt sample (project (On ∷ []) (B.state board.old)) (flat_event event.now) }
     ensures entered { (B.state board.new).entered ≡ (B.state board.old).entered + 1 }
     ensures spent { (B.state board.new).spent ≡ (B.state board.old).spent + 1 }
-    ensures events { (B.state board.new).shape.events ≡ (B.state board.old).shape.events }
+    ensures shape { (B.state board.new).shape ≡ (B.state board.old).shape }
 {
     match *event {
         Event::Step { core, count } => take_step(board, core, count),
@@ -107,7 +111,7 @@ fn take_step<B: Board>(board: &mut B, core: u8, count: u64) -> bool
     ensures unbuilt { result ≡ is_event_unbuilt sample (project (On ∷ []) (B.state board.old)) (Step core count) }
     ensures entered { (B.state board.new).entered ≡ (B.state board.old).entered + 1 }
     ensures spent { (B.state board.new).spent ≡ (B.state board.old).spent + 1 }
-    ensures events { (B.state board.new).shape.events ≡ (B.state board.old).shape.events }
+    ensures shape { (B.state board.new).shape ≡ (B.state board.old).shape }
 {
     match board.step(core, count) {
         Exit::Ran => false,

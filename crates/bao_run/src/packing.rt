@@ -1,10 +1,22 @@
-ghost use Rattle.std.specs.Prelude.{◌≡◌};
-ghost use Rattle.board.specs.Sample.{sample, sample_packing};
-ghost use Rattle.board.specs.Stage2.{by_entries, by_map};
+ghost use Rattle.report.specs.Sample.{sample};
+ghost use Rattle.bao_run.specs.Sample.{sample_packing};
+ghost use Rattle.bao_run.specs.Realises.{Realises};
+ghost use Rattle.bao_run.specs.Steps.{StepsAlike, VerdictsAlike};
 
-/// The entries that core 0 is given have for each access to each byte the verdict of the configuration's map. The
-/// function does nothing; its contract is the law.
+/// The entries that core 0 is given realise the configuration's map. The function does nothing; its contract is the law.
 #[tactic(auto, using(crate::proofs::Refines::realises))]
 pub fn the_packing_realises_the_map()
-    ensures { by_entries sample_packing ≡ by_map sample 0 }
+    ensures { Realises sample_packing sample 0 }
+{}
+
+/// Entries that realise a configuration's map have for each access to each byte the verdict of the map. The function does
+/// nothing; its contract is the law.
+pub fn entries_have_the_verdicts_of_the_map()
+    ensures { VerdictsAlike }
+{}
+
+/// Where a board has the shape of a configuration, and the entries of a core realise its map, a step of the core on the
+/// board is the step of the model. The function does nothing; its contract is the law.
+pub fn a_core_steps_as_in_the_model()
+    ensures { StepsAlike }
 {}

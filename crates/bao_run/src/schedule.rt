@@ -1,4 +1,4 @@
-ghost use Rattle.std.specs.Prelude.{◌≡◌, ◌&&◌, nat_le, length, slice_index};
+ghost use Rattle.std.specs.Prelude.{◌≡◌, ◌&&◌, nat_le, length, take};
 ghost use Rattle.bao_run.specs.Schedule.{is_line};
 
 /// One entry of a schedule.
@@ -12,9 +12,9 @@ pub enum Event {
 pub const LINE: usize = 6;
 
 /// Whether the text begins with a line whose digit is not below `low`.
+#[tactic(auto, using(crate::proofs::Lines::line_tests))]
 pub fn begins_with_line(low: u8, text: &[u8]) -> bool
-    ensures { result ≡ (nat_le 6 (length text.now) && is_line low (slice_index text.now 0) (slice_index text.now 1)
-        (slice_index text.now 2) (slice_index text.now 3) (slice_index text.now 4) (slice_index text.now 5)) }
+    ensures { result ≡ (nat_le 6 (length text.now) && is_line low (take 6 text.now)) }
 {
     if text.len() < LINE {
         return false;

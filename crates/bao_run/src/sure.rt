@@ -1,7 +1,7 @@
 ghost use Rattle.std.specs.Prelude.{◌≡◌};
 ghost use Rattle.outside.specs.FileList.{FileListData};
 ghost use Rattle.report.specs.declared.status.Status.{Status};
-ghost use Rattle.bao_run.specs.Outcome.{Call};
+ghost use Rattle.bao_run.specs.Call.{Call};
 ghost use Rattle.bao_run.specs.Answers.{Answers};
 ghost use Rattle.bao_run.specs.SureAnswers.{IsSurelyComplete};
 
@@ -12,6 +12,6 @@ use outside::{Shelf, SureShelf};
 #[tactic(auto, using(crate::proofs::SureLemmas::surely))]
 pub fn complete_over_a_sure_shelf()
     ensures { (before after : FileListData) (call : Call) (answer : Status)
-        → call.read_before ≡ ⟦<SureShelf as Shelf>⟧.faults before → call.read_after ≡ ⟦<SureShelf as Shelf>⟧.faults after
+        → call.shelf.before.faults ≡ ⟦<SureShelf as Shelf>⟧.faults before → call.shelf.after.faults ≡ ⟦<SureShelf as Shelf>⟧.faults after
         → Answers call answer → IsSurelyComplete call answer }
 {}

@@ -1,9 +1,10 @@
 ghost use Rattle.std.specs.Prelude.{◌≡◌, [], map, string_bytes, length, IsTrue, false};
-ghost use Rattle.bao_run.specs.Schedule.{flat_event};
 ghost use Rattle.report.specs.Status.{is_refusal, refusal_text};
-ghost use Rattle.bao_run.specs.Outcome.{Outcome, IsPut};
+ghost use Rattle.bao_run.specs.Call.{IsPut};
+ghost use Rattle.bao_run.specs.Input.{CanPlay, input_data};
+ghost use Rattle.bao_run.specs.Play.{IsStarted, IsPlayed};
+ghost use Rattle.bao_run.specs.Outcome.{Outcome};
 ghost use Rattle.bao_run.specs.Answers.{Answers};
-ghost use Rattle.bao_run.specs.Play.{CanPlay, IsStarted, IsPlayed};
 
 use crate::input::{Input, read_input};
 use crate::machine::{boot, sample_shape};
@@ -31,16 +32,18 @@ pub fn run_bao<S: Shelf, K: Sink, B: Board>(
     requires quiet { (B.state board.old).console ≡ (λ port. []) }
     ensures { Answers (record {
       words = map string_bytes words.now;
-      held = S.held shelf.old;
-      read_before = S.faults shelf.old;
-      read_after = S.faults shelf.new;
-      culprit = S.culprit shelf.new;
-      taken_before = K.taken sink.old;
-      taken_after = K.taken sink.new;
-      write_before = K.faults sink.old;
-      write_after = K.faults sink.new;
-      board_before = B.state board.old;
-      board_after = B.state board.new;
+      shelf = record {
+        held = S.held shelf.old;
+        before = record { faults = S.faults shelf.old; culprit = S.culprit shelf.old };
+        after = record { faults = S.faults shelf.new; culprit = S.culprit shelf.new };
+      };
+      sink = record {
+        taken_before = K.taken sink.old;
+        taken_after = K.taken sink.new;
+        faults_before = K.faults sink.old;
+        faults_after = K.faults sink.new;
+      };
+      board = record { before = B.state board.old; after = B.state board.new };
     }) result }
 {
     carry_out(alloc, words, shelf, sink, board)
@@ -58,16 +61,18 @@ fn carry_out<S: Shelf, K: Sink, B: Board>(
     requires quiet { (B.state board.old).console ≡ (λ port. []) }
     ensures { Outcome (record {
       words = map string_bytes words.now;
-      held = S.held shelf.old;
-      read_before = S.faults shelf.old;
-      read_after = S.faults shelf.new;
-      culprit = S.culprit shelf.new;
-      taken_before = K.taken sink.old;
-      taken_after = K.taken sink.new;
-      write_before = K.faults sink.old;
-      write_after = K.faults sink.new;
-      board_before = B.state board.old;
-      board_after = B.state board.new;
+      shelf = record {
+        held = S.held shelf.old;
+        before = record { faults = S.faults shelf.old; culprit = S.culprit shelf.old };
+        after = record { faults = S.faults shelf.new; culprit = S.culprit shelf.new };
+      };
+      sink = record {
+        taken_before = K.taken sink.old;
+        taken_after = K.taken sink.new;
+        faults_before = K.faults sink.old;
+        faults_after = K.faults sink.new;
+      };
+      board = record { before = B.state board.old; after = B.state board.new };
     }) result }
 {
     let (config, schedule) = match read_words(words) {
@@ -86,8 +91,12 @@ fn play<K: Sink, B: Board>(alloc: Global, sink: &mut K, board: &mut B, input: &I
     requires unfitted { (B.state board.old).fitted ≡ false }
     requires quiet { (B.state board.old).console ≡ (λ port. []) }
     requires input { CanPlay input.now }
-    ensures { IsPlayed input.now.image.items (map flat_event input.now.events.items)
-        (B.state board.old) (B.state board.new) (K.taken sink.old) (K.taken sink.new) (K.faults sink.old) (K.faults sink.new) result }
+    ensures { IsPlayed (input_data input.now) (record { before = B.state board.old; after = B.state board.new }) (record {
+      taken_before = K.taken sink.old;
+      taken_after = K.taken sink.new;
+      faults_before = K.faults sink.old;
+      faults_after = K.faults sink.new;
+    }) result }
 {
     if start(alloc, board, input).is_err() {
         return refuse(sink, Status::OutOfMemory);
@@ -107,7 +116,8 @@ fn start<B: Board>(alloc: Global, board: &mut B, input: &Input) -> Result<(), Ou
     requires unfitted { (B.state board.old).fitted ≡ false }
     requires quiet { (B.state board.old).console ≡ (λ port. []) }
     requires input { CanPlay input.now }
-    ensures { IsStarted input.now.image.items (length input.now.events.items) (B.state board.old) (B.state board.new) result }
+    ensures { IsStarted input.now.image.items (length input.now.events.items)
+        (record { before = B.state board.old; after = B.state board.new }) result }
 {
     let shape = sample_shape(input.events.len() as u32);
     board.fit(alloc, &shape)?;
@@ -119,7 +129,12 @@ fn start<B: Board>(alloc: Global, board: &mut B, input: &Input) -> Result<(), Ou
 fn refuse<K: Sink>(sink: &mut K, status: Status) -> Status
     requires { IsTrue (is_refusal status) }
     ensures status { result ≡ status }
-    ensures line { IsPut (K.taken sink.old) (K.taken sink.new) (K.faults sink.old) (K.faults sink.new) (refusal_text status) }
+    ensures line { IsPut (record {
+      taken_before = K.taken sink.old;
+      taken_after = K.taken sink.new;
+      faults_before = K.faults sink.old;
+      faults_after = K.faults sink.new;
+    }) (refusal_text status) }
 {
     let _ = write_refusal(sink, &status);
     status

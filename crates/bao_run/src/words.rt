@@ -1,5 +1,5 @@
 ghost use Rattle.std.specs.Prelude.{◌≡◌, map, string_bytes};
-ghost use Rattle.bao_run.specs.Words.{command_of, run_of, check_of, gen_of, is_number, has_no_leading_zero};
+ghost use Rattle.bao_run.specs.Words.{command_of, is_unbuilt, is_number, has_no_leading_zero};
 ghost use Rattle.bao_run.specs.Command.{command_data};
 
 /// What the words of the command line ask for.
@@ -16,68 +16,25 @@ pub enum Command<'a> {
 pub fn read_words(words: &[String]) -> Command<'_>
     ensures { command_data result ≡ command_of (map string_bytes words.now) }
 {
-    let Some((verb, rest)) = words.split_first() else {
-        return Command::Unknown;
-    };
-    let verb = verb.as_str();
-    if verb == "run" {
-        read_run(rest)
-    } else if verb == "check" {
-        read_check(rest)
-    } else if verb == "gen" {
-        read_gen(rest)
-    } else {
-        Command::Unknown
-    }
-}
-
-fn read_run(words: &[String]) -> Command<'_>
-    ensures { command_data result ≡ run_of (map string_bytes words.now) }
-{
-    let Some((config, rest)) = words.split_first() else {
-        return Command::Unknown;
-    };
-    let Some((schedule, others)) = rest.split_first() else {
-        return Command::Unknown;
-    };
-    if others.is_empty() {
-        Command::Run {
+    match words {
+        [verb, word] if is_unbuilt(verb.as_str(), word.as_str()) => Command::Unbuilt,
+        [verb, config, schedule] if verb.as_str() == "run" => Command::Run {
             config: config.as_str(),
             schedule: schedule.as_str(),
-        }
-    } else {
-        Command::Unknown
+        },
+        _ => Command::Unknown,
     }
 }
 
-fn read_check(words: &[String]) -> Command<'_>
-    ensures { command_data result ≡ check_of (map string_bytes words.now) }
+/// Whether the words are `check` with a configuration or `gen` with a number.
+fn is_unbuilt(verb: &str, word: &str) -> bool
+    ensures { result ≡ is_unbuilt verb.now word.now }
 {
-    let Some((_, others)) = words.split_first() else {
-        return Command::Unknown;
-    };
-    if others.is_empty() {
-        Command::Unbuilt
-    } else {
-        Command::Unknown
-    }
+    verb == "check" || verb == "gen" && is_number(word.as_bytes())
 }
 
-fn read_gen(words: &[String]) -> Command<'_>
-    ensures { command_data result ≡ gen_of (map string_bytes words.now) }
-{
-    let Some((number, others)) = words.split_first() else {
-        return Command::Unknown;
-    };
-    if others.is_empty() && is_number(number.as_bytes()) {
-        Command::Unbuilt
-    } else {
-        Command::Unknown
-    }
-}
-
-#[tactic(auto, using(crate::proofs::Numbers::digits_more, crate::proofs::Numbers::value_cut, crate::proofs::Numbers::not_a_number))]
 /// Whether a text is a decimal number from 0 to 2^32 - 1, without leading zeros.
+#[tactic(auto, using(crate::proofs::Numbers::digits_more, crate::proofs::Numbers::value_cut, crate::proofs::Numbers::not_a_number))]
 fn is_number(text: &[u8]) -> bool
     ensures { result ≡ is_number text.now }
 {

@@ -13,7 +13,8 @@ use Rattle.a64_execute.specs.declared.need.Need.{Need}
 use Rattle.a64_execute.specs.declared.need.Need.TheVariants as need
 use Rattle.a64_execute.specs.Want.{wanted, bytes_of}
 use Rattle.board.specs.Stage2.{Stage2}
-use Rattle.board.specs.Attempt.{next_address, all_from, bytes_from, number_at, reaches, reach_of, stores_from, effect_of, word_effect, attempt, stored_of}
+use Rattle.bao_types.specs.Bytes.{next_address}
+use Rattle.board.specs.Attempt.{all_from, bytes_from, number_at, reaches, reach_of, stores_from, effect_of, word_effect, attempt, stored_of}
 use Rattle.board.specs.Machine.{with_byte, written}
 use Rattle.board.specs.Reached.{DisturbsNothingElse, AreAlike, ObservesNothingElse}
 

@@ -1,10 +1,5 @@
-pub mod Config
-pub mod Sample
-pub mod Map
 pub mod Stage2
 pub mod Attempt
 pub mod Machine
 pub mod Reached
-pub mod Flat
-pub mod Lone
 pub mod View

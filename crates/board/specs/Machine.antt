@@ -2,8 +2,8 @@
 use Rattle.std.specs.Prelude.{◌≡◌, ℕ, ◌+◌, ◌-◌, ◌<◌, ◌≤◌, ◌==◌, ◌&&◌, ◌⊎◌, nat_le, nat_lt, Bool, true, if◌then◌else◌, IsTrue, Option, is_none, List, [], ◌∷◌, All, map, length, replicate, slice_index, slice_index_or, slice_set}
 use Rattle.bao_types.specs.declared.range.ByteRange.{ByteRange}
 use Rattle.bao_types.specs.declared.region.Region.{Region}
-use Rattle.bao_types.specs.Region.{access_permission, covers, is_enabled, is_execute_never, no_region}
-use Rattle.bao_types.specs.ByteRange.{address_space_end, end, is_in_one, is_within}
+use Rattle.bao_types.specs.ByteRange.{address_space_end, end, is_within, is_in_one}
+use Rattle.bao_types.specs.Region.{no_region, access_permission, covers, is_enabled, is_execute_never}
 use Rattle.bao_types.specs.Shape.{ShapeData, event_limit, is_port_of}
 use Rattle.a64_state.specs.Core.{CoreData}
 use Rattle.a64_state.specs.Registers.{reset_core}
@@ -33,13 +33,13 @@ entries_at entries core = slice_index_or entries core []
 
 -- the byte is in a range of memory in use
 abbrev pub is_used : ShapeData → ℕ → Bool
-is_used shape at = is_in_one (λ range. range) shape.used at
+is_used shape = is_in_one (λ range. range) shape.used
 
 -- the byte is one of a port's
 abbrev pub is_port : ShapeData → ℕ → Bool
 is_port shape = is_port_of shape.ports
 
--- what a board can be fitted with today: one bank of at most 64 MiB, which ends in the address space and holds the used
+-- what a board can be fitted with today: one bank of at most 64 MiB, which ends at or below 2^48 and holds the used
 -- ranges, and cores of at most 32 entries
 pub record IsFittable (shape : ShapeData) : Type 0 where
   pub bank : ByteRange
@@ -87,7 +87,8 @@ AreUsed shape from count = (at : ℕ) → from ≤ at → at < from + count → 
 abbrev pub IsSafeEntry : ShapeData → Region → Type 0
 IsSafeEntry shape entry =
     IsTrue (is_enabled entry) → (access_permission entry ≡ 1) ⊎ (access_permission entry ≡ 3)
-    → (at : ℕ) → IsTrue (covers entry at) → IsTrue (is_used shape at) ⊎ (IsTrue (is_port shape at) × IsTrue (is_execute_never entry))
+    → (at : ℕ) → IsTrue (covers entry at)
+    → IsTrue (is_used shape at) ⊎ (IsTrue (is_port shape at) × IsTrue (is_execute_never entry))
 
 -- the entry is set
 abbrev pub with_entry : Machine → ℕ → ℕ → Region → Machine

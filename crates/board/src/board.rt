@@ -19,8 +19,8 @@ pub enum Exit {
 /// A board is fitted once with its shape. Every call but `fit` and `entered` asks that it is fitted, and a core, entry or
 /// port in a call is one of the shape's.
 pub trait Board {
-    ghost use Rattle.bao_types.specs.Region.{no_region, IsWithinMasks};
     ghost use Rattle.board.specs.Machine.{Machine, IsFittable, fitted_with, over, AreUsed, IsSafeEntry, with_entry, entries_at, core_started, core_at, stepped, step_is_unbuilt};
+    ghost use Rattle.bao_types.specs.Region.{no_region, IsWithinMasks};
     ghost use Rattle.board.specs.View.{view_of};
 
     /// What the board is at a moment.

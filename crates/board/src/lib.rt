@@ -1,8 +1,8 @@
 //! The machine as the hypervisor sees it: the trait `Board`, and the definitions that its calls and the whole program
 //! are held to, in `specs/`.
 //!
-//! There is a machine, whose EL2 entries decide what a guest may touch (`Machine`), and a model, which asks the
-//! configuration instead (`Flat`). Both share one table of instructions.
+//! The machine's EL2 entries decide what a guest may touch. Nothing here knows a configuration or a VM: the model of
+//! those is in `vm_model`, and shares with the machine what one step does.
 #![tactic(auto)]
 
 pub use board::{Board, Exit};

@@ -3,3 +3,4 @@ pub mod Progress
 pub mod Texts
 pub mod Runs
 pub mod Sample
+pub mod Shown

@@ -2,19 +2,20 @@
 use Rattle.std.proofs.Common.{◌≡◌, ℕ, zero, suc, ◌+◌, ◌*◌, ◌<◌, ◌≤◌, Bool, true, false, List, [], ◌∷◌, ◌++◌, refl, sym, ap, ◌∙◌, arith, append_assoc, append-nil}
 use Rattle.std.specs.Prelude.{if◌then◌else◌, nat_le, nat_lt, not, ◌&&◌}
 use Rattle.std.proofs.lemmas.Bool.Decides.{nat_tests}
-use Rattle.board.specs.Config.{Config, Vm}
-use Rattle.board.specs.Sample.{sample}
+use Rattle.bao_config.specs.Data.{ConfigData, VmData}
+use Rattle.report.specs.Sample.{sample}
 use Rattle.bao_types.specs.ByteRange.{is_within}
-use Rattle.board.specs.Map.{kind_at}
+use Rattle.bao_wellformed.specs.Map.{kind_at}
 use Rattle.board.specs.Machine.{Machine, core_at}
 use Rattle.board.specs.View.{view_of}
-use Rattle.board.specs.Flat.{project, On}
+use Rattle.vm_model.specs.Flat.{On}
+use Rattle.vm_model.specs.Project.{project}
 use Rattle.report.specs.Lines.{vm_line, end_line, core_on_line, console_line, done_line, memory_line}
 use Rattle.report.specs.Section.{report, registers_text, vm_text, sections, cores_text, core_text, consoles_text, memory_text, group_text, is_memory, are_zero, run_of, all_groups}
 use Rattle.report.specs.Groups.{groups_text, plain_group}
 
 -- memory is gone over in two parts
-memory_text-split : (cfg : Config) (vm : Vm) (bytes : ℕ → ℕ) (m n at all at' : ℕ) → all ≡ m + n → at' ≡ at + 16 * m
+memory_text-split : (cfg : ConfigData) (vm : VmData) (bytes : ℕ → ℕ) (m n at all at' : ℕ) → all ≡ m + n → at' ≡ at + 16 * m
     → memory_text cfg vm bytes all at ≡ memory_text cfg vm bytes m at ++ memory_text cfg vm bytes n at'
 unfolding memory_text
 memory_text-split cfg vm bytes zero n at all at' sum place =
@@ -26,13 +27,13 @@ memory_text-split cfg vm bytes (suc m) n at (suc all) at' sum place =
     ∙ sym (append_assoc (group_text cfg vm bytes at) (memory_text cfg vm bytes m (at + 16)) (memory_text cfg vm bytes n at'))
 
 -- a group where the VM has no memory
-group_text-none : (cfg : Config) (vm : Vm) (bytes : ℕ → ℕ) (at : ℕ) → is_memory (kind_at cfg vm at) ≡ false
+group_text-none : (cfg : ConfigData) (vm : VmData) (bytes : ℕ → ℕ) (at : ℕ) → is_memory (kind_at cfg vm at) ≡ false
     → group_text cfg vm bytes at ≡ []
 unfolding group_text
 group_text-none cfg vm bytes at none = rw none refl
 
 -- groups where the VM has no memory
-memory_text-none : (cfg : Config) (vm : Vm) (bytes : ℕ → ℕ) (n at : ℕ)
+memory_text-none : (cfg : ConfigData) (vm : VmData) (bytes : ℕ → ℕ) (n at : ℕ)
     → ((a : ℕ) → at ≤ a → a < at + 16 * n → is_memory (kind_at cfg vm a) ≡ false) → memory_text cfg vm bytes n at ≡ []
 unfolding memory_text
 memory_text-none cfg vm bytes zero at none = refl
@@ -45,13 +46,13 @@ chosen true line = refl
 chosen false line = refl
 
 -- a group where the VM has memory
-group_text-some : (cfg : Config) (vm : Vm) (bytes : ℕ → ℕ) (at : ℕ) → is_memory (kind_at cfg vm at) ≡ true
+group_text-some : (cfg : ConfigData) (vm : VmData) (bytes : ℕ → ℕ) (at : ℕ) → is_memory (kind_at cfg vm at) ≡ true
     → group_text cfg vm bytes at ≡ plain_group bytes at
 unfolding group_text plain_group
 group_text-some cfg vm bytes at some = rw some (chosen (are_zero (run_of bytes at 16)) (memory_line at (run_of bytes at 16)))
 
 -- groups where the VM has memory
-memory_text-some : (cfg : Config) (vm : Vm) (bytes : ℕ → ℕ) (n at : ℕ)
+memory_text-some : (cfg : ConfigData) (vm : VmData) (bytes : ℕ → ℕ) (n at : ℕ)
     → ((a : ℕ) → at ≤ a → a < at + 16 * n → is_memory (kind_at cfg vm a) ≡ true)
     → memory_text cfg vm bytes n at ≡ groups_text bytes n at
 unfolding memory_text groups_text
@@ -62,7 +63,7 @@ memory_text-some cfg vm bytes (suc n) at some =
     (memory_text-some cfg vm bytes n (at + 16) (λ a low high. some a (omega arith) (omega arith))))
 
 -- what the sample's VM has at an address, by the tests of its two ranges
-abbrev pub the_vm : Vm
+abbrev pub the_vm : VmData
 the_vm =
     record {
       name = 97 ∷ [];

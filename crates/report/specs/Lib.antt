@@ -1,5 +1,7 @@
+pub mod Sample
 pub mod Digits
 pub mod Lines
 pub mod Section
 pub mod Groups
+pub mod Alone
 pub mod Status

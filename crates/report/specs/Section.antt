@@ -2,11 +2,12 @@
 use Rattle.std.specs.Prelude.{ℕ, zero, suc, ◌+◌, ◌==◌, ◌&&◌, nat_lt, Bool, true, false, not, if◌then◌else◌, List, [], ◌∷◌, ◌++◌, Option, None, Some, slice_get, codes}
 use Rattle.std.specs.List.{list_all}
 use Rattle.board.specs.declared.view.CoreView.{CoreView}
-use Rattle.board.specs.Config.{Config, Vm, Dev}
-use Rattle.board.specs.Map.{Kind, Ram, Port, Window, Hole, kind_at}
+use Rattle.bao_config.specs.Data.{ConfigData, VmData}
+use Rattle.bao_config.specs.declared.config.Dev.{Dev}
+use Rattle.bao_wellformed.specs.Map.{Kind, Ram, Port, Window, Hole, kind_at}
 use Rattle.board.specs.Machine.{core_at}
 use Rattle.board.specs.View.{view_of}
-use Rattle.board.specs.Flat.{Flat, Power, On, Off}
+use Rattle.vm_model.specs.Flat.{Flat, Power, On, Off}
 use Rattle.report.specs.Lines.{vm_line, end_line, core_on_line, core_off_line, register_line, nonzero_line, x_name, console_line, memory_line, done_line}
 
 -- the general registers from a number on
@@ -79,12 +80,12 @@ abbrev pub are_zero : List ℕ → Bool
 are_zero bytes = list_all (λ byte. byte == 0) bytes
 
 -- 16 bytes where the VM has memory and they aren't all zero. Its ranges are multiples of 64, so the first byte tells
-unfoldable pub group_text : Config → Vm → (ℕ → ℕ) → ℕ → List ℕ
+unfoldable pub group_text : ConfigData → VmData → (ℕ → ℕ) → ℕ → List ℕ
 group_text cfg vm bytes at =
     if is_memory (kind_at cfg vm at) && not (are_zero (run_of bytes at 16)) then memory_line at (run_of bytes at 16) else []
 
 -- so many groups of 16 bytes from an address on
-unfoldable pub memory_text : Config → Vm → (ℕ → ℕ) → ℕ → ℕ → List ℕ
+unfoldable pub memory_text : ConfigData → VmData → (ℕ → ℕ) → ℕ → ℕ → List ℕ
 memory_text cfg vm bytes zero at = []
 memory_text cfg vm bytes (suc n) at = group_text cfg vm bytes at ++ memory_text cfg vm bytes n (at + 16)
 
@@ -93,25 +94,25 @@ abbrev pub all_groups : ℕ
 all_groups = 0x100000000000
 
 -- what the report shows of a VM
-unfoldable pub vm_text : Config → Flat → Vm → List ℕ
+unfoldable pub vm_text : ConfigData → Flat → VmData → List ℕ
 vm_text cfg f vm =
     vm_line vm.name
     ++ (cores_text f 0 vm.cores
     ++ (consoles_text f vm.devs
     ++ (memory_text cfg vm f.bytes all_groups 0 ++ end_line vm.name)))
 
-abbrev pub section_of : Config → Flat → Option Vm → List ℕ
+abbrev pub section_of : ConfigData → Flat → Option VmData → List ℕ
 section_of cfg f None = []
 section_of cfg f (Some vm) = vm_text cfg f vm
 
 -- the section of the VM of that number
-abbrev pub section : Config → Flat → ℕ → List ℕ
+abbrev pub section : ConfigData → Flat → ℕ → List ℕ
 section cfg f v = section_of cfg f (slice_get cfg.vms v)
 
-unfoldable pub sections : Config → Flat → List Vm → List ℕ
+unfoldable pub sections : ConfigData → Flat → List VmData → List ℕ
 sections cfg f [] = []
 sections cfg f (vm ∷ vms) = vm_text cfg f vm ++ sections cfg f vms
 
 -- the whole report
-abbrev pub report : Config → Flat → List ℕ
+abbrev pub report : ConfigData → Flat → List ℕ
 report cfg f = sections cfg f cfg.vms ++ done_line

@@ -1,12 +1,15 @@
 //! How the program ends, and the text that it writes: a section for each VM, or the line of a refusal.
 //!
-//! The text itself is said in `specs/`, over the model's state. Nothing here takes memory.
+//! The text itself is said in `specs/`, over the model's state. Nothing here takes memory. That the report shows a VM as
+//! if it were alone is the contract of functions that do nothing.
 #![tactic(auto)]
 
+pub use alone::{a_vm_shows_as_if_alone, a_vm_shows_nothing_else};
 pub use refusal::write_refusal;
 pub use status::{FileId, Part, Status};
 pub use whole::write_report;
 
+mod alone;
 mod line;
 mod lines;
 mod refusal;

@@ -1,9 +1,10 @@
 ghost use Rattle.std.specs.Prelude.{◌≡◌, ◌<◌, true, [], ◌∷◌, ◌++◌, length};
 ghost use Rattle.outside.specs.Sink.{Takes, HasCause};
-ghost use Rattle.board.specs.Sample.{sample};
+ghost use Rattle.report.specs.Sample.{sample};
 ghost use Rattle.board.specs.Machine.{core_at};
 ghost use Rattle.board.specs.View.{view_of};
-ghost use Rattle.board.specs.Flat.{project, On};
+ghost use Rattle.vm_model.specs.Flat.{On};
+ghost use Rattle.vm_model.specs.Project.{project};
 ghost use Rattle.report.specs.Lines.{vm_line, end_line, core_on_line, console_line, done_line};
 ghost use Rattle.report.specs.Section.{report, registers_text};
 ghost use Rattle.report.specs.Groups.{groups_text};

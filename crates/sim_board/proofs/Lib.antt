@@ -1,4 +1,4 @@
 pub mod Access
-pub mod Bank
+pub mod Placed
 pub mod Confined
 pub mod Fresh

@@ -4,9 +4,9 @@ use Rattle.bao_types.specs.declared.range.ByteRange.{ByteRange}
 use Rattle.bao_types.specs.declared.access.Access.{Access}
 use Rattle.bao_types.specs.declared.access.Access.TheVariants.{Write}
 use Rattle.bao_types.specs.ByteRange.{is_within}
+use Rattle.bao_types.specs.Shape.{is_port_of}
 use Rattle.board.specs.Stage2.{by_entries}
 use Rattle.board.specs.Attempt.{Reach, reach_of, reaches}
-use Rattle.bao_types.specs.Shape.{is_port_of}
 use Rattle.sim_board.specs.declared.guard.Guard.{Guard}
 
 -- an access to the byte is carried out

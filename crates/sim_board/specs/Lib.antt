@@ -1,4 +1,5 @@
-pub mod Memory
+pub mod Bank
+pub mod Step
 pub mod Guard
 pub mod Sound
 pub mod SimBoard

@@ -1,14 +1,14 @@
 -- What every `SimBoard` keeps.
-use Rattle.std.specs.Prelude.{◌≡◌, ℕ, ◌≤◌, List, All, ◌||◌, length, IsTrue}
-use Rattle.bao_types.specs.declared.range.ByteRange.{ByteRange}
+use Rattle.std.specs.Prelude.{◌≡◌, ℕ, ◌≤◌, List, All, ◌||◌, length, IsTrue, Option}
 use Rattle.bao_types.specs.declared.region.Region.{Region}
 use Rattle.bao_types.specs.declared.shape.Shape.{Shape}
 use Rattle.bao_types.specs.Shape.{ShapeData, event_limit, shape_data}
 use Rattle.bao_types.specs.declared.access.Access.TheVariants.{Write}
 use Rattle.bao_types.specs.Region.{is_match}
 use Rattle.pmsa_stage2.specs.Stage2.{gives_guest}
-use Rattle.bao_types.specs.ByteRange.{address_space_end, end, is_within}
 use Rattle.board.specs.Machine.{is_used, is_port}
+use Rattle.sim_board.specs.Bank.{is_held}
+use Rattle.sim_board.specs.declared.bank.Bank.{Bank}
 
 -- the entry lets a guest store to memory in use and to ports alone
 abbrev pub IsConfined : ShapeData → Region → Type 0
@@ -16,13 +16,11 @@ IsConfined shape entry =
     (at : ℕ) → IsTrue (is_match entry at) → IsTrue (gives_guest entry Write)
     → IsTrue (is_used shape at || is_port shape at)
 
--- memory is the bank's bytes, which hold the used ranges; each core of the shape has its registers and entries, each
--- of them confined; and no more steps were taken than events were spent, of the most that a board takes
-pub record IsSound (shape : Shape) (bank : ByteRange) (memory_len cores_len : ℕ) (entries : List (List Region))
-    (entered spent : ℕ) : Type 0 where
-  pub memory_size : memory_len ≡ bank.size
-  pub bank_end : end bank ≤ address_space_end
-  pub used : (at : ℕ) → IsTrue (is_used (shape_data shape) at) → IsTrue (is_within bank at)
+-- the bank holds the used ranges; each core of the shape has its registers and entries, each of them confined; and no more
+-- steps were taken than events were spent, of a million at most
+pub record IsSound (shape : Shape) (bank : Option Bank) (cores_len : ℕ) (entries : List (List Region)) (entered spent : ℕ)
+    : Type 0 where
+  pub used : (at : ℕ) → IsTrue (is_used (shape_data shape) at) → IsTrue (is_held bank at)
   pub cores : cores_len ≡ length shape.cores.items
   pub entries_len : length entries ≡ length shape.cores.items
   pub confined : All (All (IsConfined (shape_data shape))) entries

@@ -1,6 +1,5 @@
 ghost use Rattle.std.specs.Prelude.{◌≡◌};
 ghost use Rattle.board.specs.Attempt.{all_from};
-ghost use Rattle.bao_types.specs.Shape.{is_port_of};
 ghost use Rattle.sim_board.specs.Guard.{reached};
 
 use bao_types::{Access, PortSpot, Region, Verdict, is_port};

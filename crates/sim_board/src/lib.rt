@@ -7,7 +7,7 @@
 
 pub use machine::SimBoard;
 
+mod bank;
 mod guard;
 mod machine;
-mod memory;
 mod step;

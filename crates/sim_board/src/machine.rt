@@ -3,26 +3,23 @@ ghost use Rattle.bao_types.specs.Shape.{shape_data};
 ghost use Rattle.a64_state.specs.Registers.{reset_core};
 ghost use Rattle.bao_types.specs.Region.{no_region};
 ghost use Rattle.board.specs.Machine.{entries_at};
-ghost use Rattle.sim_board.specs.Memory.{kept};
 ghost use Rattle.sim_board.specs.Sound.{IsSound};
 
+use crate::bank::Bank;
 use crate::guard::Guard;
-use crate::memory::byte_of;
 use crate::step::step_core;
 use a64_state::Core;
 use arrayvec::ArrayVec;
-use bao_types::{ByteRange, CorePlace, OutOfMemory, Region, Shape};
+use bao_types::{CorePlace, OutOfMemory, Region, Shape};
 use board::{Board, CoreView, Exit};
-use phys_memory::Phys;
 use std::alloc::{AllocError, Global};
 
 /// The simulated machine.
 #[derive(Drop)]
 pub struct SimBoard {
     shape: Shape,
-    bank: ByteRange,
-    /// The bytes of the bank; none before the board is fitted.
-    memory: Option<Phys>,
+    /// None before the board is fitted.
+    bank: Option<Bank>,
     cores: Vec<Core>,
     /// The EL2 entries of each core.
     entries: Vec<ArrayVec<Region, 32>>,
@@ -30,7 +27,7 @@ pub struct SimBoard {
     count: u64,
     entered: u64,
     spent: u64,
-    ghost sound: { IsSound shape bank (length (kept memory)) (length cores.items) (map (λ e. e.items) entries.items) entered spent },
+    ghost sound: { IsSound shape bank (length cores.items) (map (λ e. e.items) entries.items) entered spent },
 }
 
 impl SimBoard {
@@ -43,8 +40,7 @@ impl SimBoard {
     {
         SimBoard {
             shape: Shape::default(),
-            bank: ByteRange::default(),
-            memory: None,
+            bank: None,
             cores: Vec::new(alloc),
             entries: Vec::new(alloc),
             count: 0,
@@ -122,15 +118,13 @@ impl Board for SimBoard {
     ghost state = { state_of };
 
     fn fit(&mut self, alloc: Global, shape: &Shape) -> Result<(), OutOfMemory> {
-        let bank = shape.banks[0];
         let copy = copy_shape(shape)?;
-        let memory = Phys::new(alloc, bank.size)?;
+        let bank = Bank::new(alloc, shape.banks[0])?;
         let cores = reset_cores(alloc, &shape.cores)?;
         let entries = zero_entries(alloc, &shape.cores)?;
         *self = SimBoard {
             shape: copy,
-            bank,
-            memory: Some(memory),
+            bank: Some(bank),
             cores,
             entries,
             count: 0,
@@ -141,11 +135,11 @@ impl Board for SimBoard {
     }
 
     fn load(&mut self, at: u64, bytes: &[u8]) {
-        let Some(memory) = &mut self.memory else {
+        let Some(bank) = &mut self.bank else {
             unreachable!()
         };
         if !bytes.is_empty() {
-            memory.copy_in(at - self.bank.base, bytes);
+            bank.copy_in(at, bytes);
         }
     }
 
@@ -171,7 +165,7 @@ impl Board for SimBoard {
     }
 
     fn step(&mut self, core: u8, now: u64) -> Exit {
-        let Some(memory) = &mut self.memory else {
+        let Some(bank) = &mut self.bank else {
             unreachable!()
         };
         let at = usize::from(core);
@@ -179,7 +173,7 @@ impl Board for SimBoard {
             entries: &self.entries[at],
             ports: &self.shape.ports,
         };
-        let exit = step_core(&mut self.cores[at], self.bank, memory, &guard, now);
+        let exit = step_core(&mut self.cores[at], bank, &guard, now);
         self.count = now;
         self.entered += 1;
         self.spent += 1;
@@ -187,10 +181,10 @@ impl Board for SimBoard {
     }
 
     fn byte_at(&self, at: u64) -> u8 {
-        let Some(memory) = &self.memory else {
+        let Some(bank) = &self.bank else {
             unreachable!()
         };
-        byte_of(self.bank, memory, at)
+        bank.byte_at(at)
     }
 
     fn core_view(&self, core: u8) -> CoreView {

@@ -1,76 +1,53 @@
-ghost use Rattle.std.specs.Prelude.{◌≡◌, ◌≤◌, length, if◌then◌else◌, is_none, Some};
+ghost use Rattle.std.specs.Prelude.{◌≡◌, ◌≤◌, if◌then◌else◌, IsTrue, Some};
 ghost use Rattle.a64_decode.specs.Lawful.{IsLawful};
 ghost use Rattle.a64_execute.specs.Want.{wanted, access_asked, bytes_of, IsAccess};
 ghost use Rattle.a64_execute.specs.Finish.{finished};
-ghost use Rattle.board.specs.Attempt.{attempt, effect_of, core_of, stored_of, stores_from};
+ghost use Rattle.board.specs.Attempt.{attempt, effect_of, stores_from};
 ghost use Rattle.board.specs.Machine.{written};
-ghost use Rattle.sim_board.specs.Memory.{bank_bytes};
+ghost use Rattle.sim_board.specs.Bank.{bank_bytes};
 ghost use Rattle.sim_board.specs.Guard.{guarded, IsContained};
+ghost use Rattle.sim_board.specs.Step.{carried_out};
 
+use crate::bank::Bank;
 use crate::guard::Guard;
-use crate::memory::{number_at, store_at};
 use a64_address::MemShape;
 use a64_decode::{Instr, decode};
 use a64_execute::{Need, complete, complete_access, want};
 use a64_state::Core;
-use bao_types::{Access, ByteRange};
+use bao_types::Access;
 use board::Exit;
-use phys_memory::Phys;
 
 /// Lets a core execute the instruction at its PC, at the system count `now`.
 #[tactic(auto, unfolding(board::specs::Attempt::attempt))]
-pub(crate) fn step_core(
-    core: &mut Core,
-    bank: ByteRange,
-    memory: &mut Phys,
-    guard: &Guard<'_>,
-    now: u64,
-) -> Exit
-    requires size { length memory.old ≡ bank.size }
-    requires contained { IsContained bank guard.now }
-    ensures size { length memory.new ≡ bank.size }
-    ensures core { core.new ≡ core_of core.old (attempt (guarded guard.now (bank_bytes bank memory.old)) core.old now) }
-    ensures bytes { bank_bytes bank memory.new
-        ≡ written (stored_of (attempt (guarded guard.now (bank_bytes bank memory.old)) core.old now)) (bank_bytes bank memory.old) }
-    ensures exit { result ≡ (if is_none (attempt (guarded guard.now (bank_bytes bank memory.old)) core.old now)
-        then Exit.Unbuilt else Exit.Ran) }
+pub(crate) fn step_core(core: &mut Core, bank: &mut Bank, guard: &Guard<'_>, now: u64) -> Exit
+    requires { IsContained bank.old.range guard.now }
+    ensures range { bank.new.range ≡ bank.old.range }
+    ensures end { record { core = core.new; bytes = bank_bytes bank.new; exit = result }
+        ≡ carried_out (attempt (guarded guard.now (bank_bytes bank.old)) core.old now) core.old (bank_bytes bank.old) }
 {
-    match fetch(bank, memory, guard, core.pc) {
-        Some(word) => execute(core, bank, memory, guard, now, &decode(word)),
+    match fetch(bank, guard, core.pc) {
+        Some(word) => execute(core, bank, guard, now, &decode(word)),
         None => Exit::Unbuilt,
     }
 }
 
 /// Executes an instruction that was fetched.
-fn execute(
-    core: &mut Core,
-    bank: ByteRange,
-    memory: &mut Phys,
-    guard: &Guard<'_>,
-    now: u64,
-    instr: &Instr,
-) -> Exit
+fn execute(core: &mut Core, bank: &mut Bank, guard: &Guard<'_>, now: u64, instr: &Instr) -> Exit
     requires lawful { IsLawful instr.now }
-    requires size { length memory.old ≡ bank.size }
-    requires contained { IsContained bank guard.now }
-    ensures size { length memory.new ≡ bank.size }
-    ensures core { core.new ≡ core_of core.old
-        (effect_of (guarded guard.now (bank_bytes bank memory.old)) core.old now instr.now (wanted core.old instr.now)) }
-    ensures bytes { bank_bytes bank memory.new ≡ written (stored_of
-        (effect_of (guarded guard.now (bank_bytes bank memory.old)) core.old now instr.now (wanted core.old instr.now)))
-        (bank_bytes bank memory.old) }
-    ensures exit { result ≡ (if is_none
-        (effect_of (guarded guard.now (bank_bytes bank memory.old)) core.old now instr.now (wanted core.old instr.now))
-        then Exit.Unbuilt else Exit.Ran) }
+    requires contained { IsContained bank.old.range guard.now }
+    ensures range { bank.new.range ≡ bank.old.range }
+    ensures end { record { core = core.new; bytes = bank_bytes bank.new; exit = result }
+        ≡ carried_out (effect_of (guarded guard.now (bank_bytes bank.old)) core.old now instr.now (wanted core.old instr.now))
+        core.old (bank_bytes bank.old) }
 {
     match want(core, instr) {
         Need::Done => finish(core, now, instr),
-        Need::Load { shape } => match load(bank, memory, guard, &shape) {
+        Need::Load { shape } => match load(bank, guard, &shape) {
             Some(got) => finish_access(core, now, instr, &shape, got),
             None => Exit::Unbuilt,
         },
         Need::Store { shape, value } => {
-            if store(bank, memory, guard, &shape, value) {
+            if store(bank, guard, &shape, value) {
                 finish_access(core, now, instr, &shape, 0)
             } else {
                 Exit::Unbuilt
@@ -105,53 +82,44 @@ fn finish_access(core: &mut Core, now: u64, instr: &Instr, shape: &MemShape, got
 }
 
 /// The word at `pc`, where it may be fetched.
-fn fetch(bank: ByteRange, memory: &Phys, guard: &Guard<'_>, pc: u64) -> Option<u32>
-    requires { length memory.now ≡ bank.size }
-    ensures { result ≡ (guarded guard.now (bank_bytes bank memory.now)).fetched pc }
+fn fetch(bank: &Bank, guard: &Guard<'_>, pc: u64) -> Option<u32>
+    ensures { result ≡ (guarded guard.now (bank_bytes bank.now)).fetched pc }
 {
     if pc % 4 == 0 && guard.reaches_all(Access::Exec, pc, 4) {
-        Some(number_at(bank, memory, pc, 4) as u32)
+        Some(bank.number_at(pc, 4) as u32)
     } else {
         None
     }
 }
 
 /// The bytes of an access, where all of them may be read.
-fn load(bank: ByteRange, memory: &Phys, guard: &Guard<'_>, shape: &MemShape) -> Option<u128>
-    requires size { length memory.now ≡ bank.size }
-    requires access { IsAccess shape.now }
-    ensures { result ≡ (guarded guard.now (bank_bytes bank memory.now)).loaded shape.now.at (bytes_of shape.now) }
+fn load(bank: &Bank, guard: &Guard<'_>, shape: &MemShape) -> Option<u128>
+    requires { IsAccess shape.now }
+    ensures { result ≡ (guarded guard.now (bank_bytes bank.now)).loaded shape.now.at (bytes_of shape.now) }
 {
     let count = byte_count(shape);
     if guard.reaches_all(Access::Read, shape.at, count) {
-        Some(number_at(bank, memory, shape.at, count))
+        Some(bank.number_at(shape.at, count))
     } else {
         None
     }
 }
 
 /// Stores the bytes of an access, where all of them may be written. Where not, none is.
-fn store(
-    bank: ByteRange,
-    memory: &mut Phys,
-    guard: &Guard<'_>,
-    shape: &MemShape,
-    value: u128,
-) -> bool
-    requires size { length memory.old ≡ bank.size }
+fn store(bank: &mut Bank, guard: &Guard<'_>, shape: &MemShape, value: u128) -> bool
     requires access { IsAccess shape.now }
-    requires contained { IsContained bank guard.now }
-    ensures size { length memory.new ≡ bank.size }
-    ensures stored { result ≡ (guarded guard.now (bank_bytes bank memory.old)).can_store shape.now.at (bytes_of shape.now) }
-    ensures bytes { bank_bytes bank memory.new ≡ (if result
-        then written (stores_from shape.now.at (bytes_of shape.now) value) (bank_bytes bank memory.old)
-        else bank_bytes bank memory.old) }
+    requires contained { IsContained bank.old.range guard.now }
+    ensures range { bank.new.range ≡ bank.old.range }
+    ensures stored { result ≡ (guarded guard.now (bank_bytes bank.old)).can_store shape.now.at (bytes_of shape.now) }
+    ensures bytes { bank_bytes bank.new ≡ (if result
+        then written (stores_from shape.now.at (bytes_of shape.now) value) (bank_bytes bank.old)
+        else bank_bytes bank.old) }
 {
     let count = byte_count(shape);
     if !guard.reaches_all(Access::Write, shape.at, count) {
         return false;
     }
-    store_at(bank, memory, shape.at, count, value);
+    bank.store(shape.at, count, value);
     true
 }
 

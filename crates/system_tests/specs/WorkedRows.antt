@@ -1,5 +1,5 @@
 use Rattle.std.specs.Prelude.{ℕ, List, [], ◌∷◌}
-use Rattle.board.specs.Flat.{FlatEvent, Step}
+use Rattle.vm_model.specs.Flat.{FlatEvent, Step}
 
 -- `movz x0, #5` and a branch to itself
 abbrev pub image : List ℕ

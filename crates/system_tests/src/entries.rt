@@ -4,7 +4,8 @@ ghost use Rattle.std.specs.Prelude.{◌≡◌, true, false, OnOk};
 ghost use Rattle.bao_types.specs.Shape.{shape_data};
 ghost use Rattle.bao_types.specs.Region.{IsWithinMasks};
 ghost use Rattle.board.specs.Machine.{IsSafeEntry};
-ghost use Rattle.board.specs.Sample.{sample_shape};
+ghost use Rattle.report.specs.Sample.{sample};
+ghost use Rattle.bao_run.specs.Shape.{shape_of};
 
 use bao_types::{ByteRange, CorePlace, OutOfMemory, PortSpot, Region, Shape};
 use board::{Board, Exit};
@@ -40,7 +41,7 @@ const PROGRAM: [u8; 12] = [
 
 /// One core, 64 KiB of memory in use, and a console.
 fn shape() -> Shape
-    ensures { shape_data result ≡ sample_shape 8 }
+    ensures { shape_data result ≡ shape_of sample 8 }
 {
     let mut shape = Shape::default();
     shape.events = 8;
@@ -69,9 +70,9 @@ fn shape() -> Shape
 fn play<B: Board>(alloc: Global, board: &mut B, upper: Region) -> Result<[Exit; 3], OutOfMemory>
     requires unfitted { (B.state board.old).fitted ≡ false }
     requires bits { IsWithinMasks upper }
-    requires safe { IsSafeEntry (sample_shape 8) upper }
+    requires safe { IsSafeEntry (shape_of sample 8) upper }
     ensures fitted { OnOk result ((B.state board.new).fitted ≡ true) }
-    ensures shape { OnOk result ((B.state board.new).shape ≡ sample_shape 8) }
+    ensures shape { OnOk result ((B.state board.new).shape ≡ shape_of sample 8) }
 {
     board.fit(alloc, &shape())?;
     board.load(0x10_0000, &PROGRAM);

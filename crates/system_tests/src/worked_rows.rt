@@ -1,8 +1,9 @@
 ghost use Rattle.std.specs.Prelude.{◌≡◌, [], ◌∷◌, slice_index, Some, None};
-ghost use Rattle.board.specs.Sample.{sample};
+ghost use Rattle.report.specs.Sample.{sample};
 ghost use Rattle.board.specs.Machine.{core_at};
-ghost use Rattle.board.specs.Flat.{boot, flat_run, first_unbuilt, entered_count};
-ghost use Rattle.board.specs.Lone.{stored};
+ghost use Rattle.vm_model.specs.Flat.{flat_run, first_unbuilt, entered_count};
+ghost use Rattle.vm_model.specs.Boot.{boot};
+ghost use Rattle.vm_model.specs.Lone.{stored};
 ghost use Rattle.system_tests.specs.WorkedRows.{image, storing_image, steps, two_more};
 
 /// By the definitions, three steps of `movz x0, #5` and a branch to itself leave X0 at 5 and PC at the branch; each step

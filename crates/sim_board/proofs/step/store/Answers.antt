@@ -5,7 +5,7 @@ use Rattle.sim_board.specs.Guard.{reached}
 use Rattle.sim_board.proofs.Access.{all_from-weaker}
 use Rattle.sim_board.proofs.step.store.Goals as goal
 
-pub store_at-requires-clause-within : goal.store_at-requires-clause-within
-store_at-requires-clause-within c =
-    all_from-weaker (reached c.args.guard.now Write) (is_within c.args.bank) c.requires.contained c.args.shape.now.at
+pub store-requires : goal.store-requires
+store-requires c =
+    all_from-weaker (reached c.args.guard.now Write) (is_within c.args.bank.now.range) c.requires.contained c.args.shape.now.at
     c.byte_count-count.result (sym c.reaches_all.ensures ∙ c.if-not-reaches_all.false)

@@ -8,7 +8,7 @@ use Rattle.a64_execute.specs.Branch.{branched}
 use Rattle.a64_execute.specs.Transfer.{transferred}
 use Rattle.a64_execute.specs.Finish.{finished}
 use Rattle.board.specs.Attempt.{attempt}
-use Rattle.board.specs.Stage2.{by_map}
+use Rattle.bao_wellformed.specs.Map.{by_map}
 use Rattle.system_tests.proofs.worked_rows.storing_rows.Goals as goal
 
 pub returns : goal.returns

@@ -1,14 +1,11 @@
-use Rattle.std.proofs.Common.{◌≡◌, ℕ, All, sym, ap, subst, ◌∙◌, length, map, replicate, get_or, rules}
-use Rattle.std.specs.Prelude.{slice_index}
+use Rattle.std.proofs.Common.{◌≡◌, All, sym, ap, subst, ◌∙◌, length, map, replicate, rules}
 use Rattle.std.proofs.lemmas.List.{length-map}
 use Rattle.std.proofs.lemmas.Simd.{map-map}
-use Rattle.bao_types.specs.declared.range.ByteRange.{ByteRange}
 use Rattle.bao_types.specs.Shape.{shape_data}
 use Rattle.a64_state.specs.Registers.{reset_core}
 use Rattle.bao_types.specs.Region.{no_region}
-use Rattle.sim_board.specs.Memory.{bank_bytes}
+use Rattle.sim_board.specs.Bank.{bank_bytes}
 use Rattle.sim_board.specs.Sound.{IsConfined}
-use Rattle.sim_board.proofs.Bank.{bank_bytes-zeros}
 use Rattle.sim_board.proofs.Confined.{zeros_are_confined}
 use Rattle.sim_board.proofs.Fresh.{fresh_from}
 use Rattle.sim_board.proofs.machine.SimBoardBoard.fit.Goals as goal
@@ -16,17 +13,15 @@ use Rattle.sim_board.proofs.machine.SimBoardBoard.fit.Goals as goal
 pub returns-clause-ok : goal.returns-clause-ok
 returns-clause-ok c =
     let shape : shape_data c.in_ok-copy.copy ≡ shape_data c.args.shape.now = search rules in
-    let bank : ByteRange = get_or c.deref.result.now 0 (record { base = 0; size = 0 }) in
-    let zeros : (at : ℕ) → slice_index c.in_ok-memory.memory at ≡ 0 = search rules in
-    let bytes : bank_bytes bank c.in_ok-memory.memory ≡ (λ at. 0) = bank_bytes-zeros bank c.in_ok-memory.memory zeros in
+    let bytes : bank_bytes c.in_ok-bank.bank ≡ (λ at. 0) = search rules in
     let cores : c.in_ok-cores.cores.items ≡ map (λ place. reset_core place.affinity) c.args.shape.now.cores.items =
     search rules in
     let listed : c.in_ok-entries.entries.items
     ≡ map (λ place. record { items = replicate place.entries no_region }) c.args.shape.now.cores.items = search rules in
     fresh_from _ _ _ _ _ _ _ _ shape bytes cores (ap (map (λ e. e.items)) listed ∙ map-map _ _ _)
 
-pub invariant_of-t-39 : goal.invariant_of-t-39
-invariant_of-t-39 c =
+pub invariant_of-t-38 : goal.invariant_of-t-38
+invariant_of-t-38 c =
     let listed : c.in_ok-entries.entries.items
     ≡ map (λ place. record { items = replicate place.entries no_region }) c.args.shape.now.cores.items = search rules in
     let lists : map (λ e. e.items) c.in_ok-entries.entries.items
@@ -38,8 +33,6 @@ invariant_of-t-39 c =
     search rules in
     record {
       sound = record {
-        memory_size = search rules;
-        bank_end = search rules;
         used = search rules;
         cores = ap length reset ∙ length-map _ _ ∙ sym (ap length places);
         entries_len = ap length lists ∙ length-map _ _ ∙ sym (ap length places);

@@ -1,18 +1,20 @@
-use Rattle.std.proofs.Common.{◌≡◌, ◌<◌, List, get_or, sym, ap, subst, ◌∙◌, All, [], map, length, arith}
-use Rattle.std.specs.Prelude.{IsTrue}
+use Rattle.std.proofs.Common.{◌≡◌, ◌<◌, List, get_or, sym, ap, subst, ◌∙◌, All, [], map, length, arith, rules}
+use Rattle.std.specs.Prelude.{IsTrue, Some}
 use Rattle.std.proofs.lemmas.List.{get_or-map, length-map}
 use Rattle.std.proofs.lemmas.List.Elements.{All-get_or}
 use Rattle.bao_types.specs.declared.access.Access.TheVariants.{Write}
 use Rattle.bao_types.specs.declared.region.Region.{Region}
-use Rattle.bao_types.specs.Shape.{shape_data, is_port_of}
+use Rattle.bao_types.specs.Shape.{shape_data}
 use Rattle.pmsa_stage2.specs.Stage2.{stage2}
 use Rattle.board.specs.Attempt.{reaches}
+use Rattle.bao_types.specs.Shape.{is_port_of}
+use Rattle.sim_board.specs.Bank.{is_held}
 use Rattle.sim_board.specs.Sound.{IsConfined}
 use Rattle.sim_board.proofs.Confined.{confined_store}
 use Rattle.sim_board.proofs.machine.SimBoardBoard.step.Goals as goal
 
-pub step_core-exit-requires-clause-contained : goal.step_core-exit-requires-clause-contained
-step_core-exit-requires-clause-contained c =
+pub step_core-exit-requires : goal.step_core-exit-requires
+step_core-exit-requires c =
     let self = c.args.self.now in
     let lists : List (List Region) = map (λ e. e.items) self.entries.items in
     let core = c.from-at.result in
@@ -24,5 +26,6 @@ step_core-exit-requires-clause-contained c =
     let confined : All (IsConfined (shape_data self.shape)) c.deref.result.now =
     subst (All (IsConfined (shape_data self.shape))) same
     (All-get_or (All (IsConfined (shape_data self.shape))) lists core [] (omega (arith, low, length-map self.entries.items (λ e. e.items))) self.sound.confined) in
-    λ at stored. self.sound.used at (confined_store (shape_data self.shape) at c.deref.result.now confined
-    (subst (λ ports. IsTrue (reaches (stage2 c.deref.result.now) (is_port_of ports) Write at)) c.deref-2.ensures.0 stored))
+    let bank : self.bank ≡ Some c.in-Some.bank = search rules in
+    λ at stored. subst (λ b. IsTrue (is_held b at)) bank (self.sound.used at (confined_store (shape_data self.shape) at c.deref.result.now confined
+    (subst (λ ports. IsTrue (reaches (stage2 c.deref.result.now) (is_port_of ports) Write at)) c.deref-2.ensures.0 stored)))

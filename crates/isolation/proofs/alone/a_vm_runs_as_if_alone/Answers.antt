@@ -1,5 +1,0 @@
-use Rattle.isolation.proofs.Run.{runs_as_if_alone}
-use Rattle.isolation.proofs.alone.a_vm_runs_as_if_alone.Goals as goal
-
-pub returns : goal.returns
-returns c = runs_as_if_alone

@@ -1,0 +1,9 @@
+pub mod Lists
+pub mod Stores
+pub mod Own
+pub mod Strangers
+pub mod Boot
+pub mod Run
+pub mod View
+pub mod Apart
+pub mod Granular

@@ -1,0 +1,60 @@
+-- A whole run, event by event.
+use Rattle.std.proofs.Common.{◌≡◌, ℕ, suc, Bool, true, false, List, [], ◌∷◌, ◌++◌, All, refl, sym, ap, subst, arith}
+use Rattle.std.specs.Prelude.{if◌then◌else◌, Some, slice_get, option_to_list}
+use Rattle.bao_config.specs.Data.{ConfigData, VmData}
+use Rattle.vm_model.specs.Flat.{Flat, FlatEvent, Step, Wrote, flat_step, flat_run}
+use Rattle.vm_model.specs.Boot.{boot}
+use Rattle.vm_model.specs.Lone.{only, is_core_of, emitted, seen, view}
+use Rattle.vm_model.specs.Agree.{Agree}
+use Rattle.vm_model.specs.Apart.{IsApart}
+use Rattle.vm_model.specs.Alone.{OwnStepsAgree, OtherStepsAgree, IsStep, RunsAsIfAlone}
+use Rattle.vm_model.proofs.Own.{single, own_step}
+use Rattle.vm_model.proofs.Strangers.{stranger_step}
+use Rattle.vm_model.proofs.Boot.{boots_alike}
+
+-- the configuration of the VM alone, where it is at this place
+alone : (cfg : ConfigData) (v : ℕ) (vm : VmData) → slice_get cfg.vms v ≡ Some vm → single cfg vm ≡ only cfg v
+alone cfg v vm place = ap (λ o. record cfg { vms = option_to_list o }) (sym place)
+
+pub own_steps_agree : OwnStepsAgree
+own_steps_agree cfg v vm core now f g place own agree =
+    subst (λ c. Agree cfg vm (flat_step cfg f (Step core now)) (flat_step c g (Step core now))) (alone cfg v vm place)
+    (own_step cfg v vm place core own f g agree now)
+
+pub other_steps_agree : OtherStepsAgree
+other_steps_agree cfg images v vm core now f g apart stranger agree =
+    stranger_step cfg (only cfg v) images v vm apart core now stranger f g agree
+
+flat_run-append : (cfg : ConfigData) (f : Flat) (xs ys : List FlatEvent) → flat_run cfg f (xs ++ ys) ≡ flat_run cfg (flat_run cfg f xs) ys
+flat_run-append cfg f [] ys = refl
+flat_run-append cfg f (x ∷ xs) ys = flat_run-append cfg (flat_step cfg f x) xs ys
+
+module _ (cfg : ConfigData) (images : List (List ℕ)) (v : ℕ) (vm : VmData) (apart : IsApart cfg images v vm) where
+  by_core : (core now : ℕ) (f g : Flat) → Agree cfg vm f g → (own : Bool) → is_core_of cfg v core ≡ own
+      → Agree cfg vm (flat_step cfg f (Step core now))
+      (flat_run (single cfg vm) g (if own then Step core now ∷ [] else emitted cfg f v (Step core now)))
+  by_core core now f g agree true own = own_step cfg v vm apart.place core own f g agree now
+  by_core core now f g agree false own = stranger_step cfg (single cfg vm) images v vm apart core now own f g agree
+
+  one_event : (event : FlatEvent) → IsStep event → (f g : Flat) → Agree cfg vm f g
+      → Agree cfg vm (flat_step cfg f event) (flat_run (single cfg vm) g (seen cfg f v event))
+  one_event (Step core now) step f g agree = by_core core now f g agree (is_core_of cfg v core) refl
+  one_event (Wrote stores) step f g agree = absurd step
+
+  whole_run : (events : List FlatEvent) → All IsStep events → (f g : Flat) → Agree cfg vm f g
+      → Agree cfg vm (flat_run cfg f events) (flat_run (single cfg vm) g (view cfg f v events))
+  whole_run [] steps f g agree = agree
+  whole_run (event ∷ events) steps f g agree =
+      subst (Agree cfg vm (flat_run cfg (flat_step cfg f event) events))
+      (sym (flat_run-append (single cfg vm) g (seen cfg f v event) (view cfg (flat_step cfg f event) v events)))
+      (whole_run events (λ k d low. steps (suc k) d (omega arith)) (flat_step cfg f event)
+      (flat_run (single cfg vm) g (seen cfg f v event)) (one_event event (steps 0 event (omega arith)) f g agree))
+
+pub runs_as_if_alone : RunsAsIfAlone
+runs_as_if_alone cfg images events v vm apart steps =
+    subst
+    (λ c. Agree cfg vm (flat_run cfg (boot cfg images) events)
+    (flat_run c (boot c (option_to_list (slice_get images v))) (view cfg (boot cfg images) v events)))
+    (alone cfg v vm apart.place)
+    (whole_run cfg images v vm apart events steps (boot cfg images)
+    (boot (single cfg vm) (option_to_list (slice_get images v))) (boots_alike cfg images v vm apart))

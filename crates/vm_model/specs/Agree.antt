@@ -1,0 +1,24 @@
+-- When two flat machines are the same to a VM.
+use Rattle.std.specs.Prelude.{◌≡◌, ℕ, Bool, true, false, IsTrue, length, slice_get}
+use Rattle.bao_config.specs.Data.{ConfigData, VmData}
+use Rattle.bao_wellformed.specs.Map.{Kind, Ram, Port, Window, Hole, kind_at, has_core, has_port}
+use Rattle.board.specs.Machine.{core_at}
+use Rattle.vm_model.specs.Flat.{Flat}
+
+abbrev pub is_present : Kind → Bool
+is_present (Ram write exec) = true
+is_present (Port id) = true
+is_present (Window shmem write) = true
+is_present Hole = false
+
+-- the byte is in the VM's map
+abbrev pub IsInMap : ConfigData → VmData → ℕ → Type 0
+IsInMap cfg vm at = IsTrue (is_present (kind_at cfg vm at))
+
+-- equal are all bytes of the VM's map, the registers and the power of each of its cores, and what each of its ports has put out
+pub record Agree (cfg : ConfigData) (vm : VmData) (one other : Flat) : Type 0 where
+  pub bytes : (at : ℕ) → IsInMap cfg vm at → one.bytes at ≡ other.bytes at
+  pub cores : (core : ℕ) → IsTrue (has_core core vm) → core_at one.cores core ≡ core_at other.cores core
+  pub powers : (core : ℕ) → IsTrue (has_core core vm) → slice_get one.powers core ≡ slice_get other.powers core
+  pub core_count : length one.cores ≡ length other.cores
+  pub consoles : (port : ℕ) → IsTrue (has_port port vm) → one.console port ≡ other.console port

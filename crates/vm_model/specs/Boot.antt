@@ -1,0 +1,49 @@
+-- The flat machine at boot: the images lie in memory, and the first core of each VM is about to run.
+use Rattle.std.specs.Prelude.{ℕ, zero, suc, ◌==◌, List, [], ◌∷◌, map, Option, None, Some}
+use Rattle.std.specs.List.{enumerate_from, position_from}
+use Rattle.a64_state.specs.Core.{CoreData}
+use Rattle.a64_state.specs.Registers.{reset_core}
+use Rattle.bao_config.specs.Data.{ConfigData, VmData}
+use Rattle.bao_wellformed.specs.Map.{owner}
+use Rattle.board.specs.Machine.{over}
+use Rattle.vm_model.specs.Flat.{Flat, Power, On, Off}
+
+-- memory at boot: zero but for the images, each at its VM's place
+abbrev pub boot_bytes : List VmData → List (List ℕ) → ℕ → ℕ
+boot_bytes [] images = λ at. 0
+boot_bytes (vm ∷ vms) [] = λ at. 0
+boot_bytes (vm ∷ vms) (image ∷ images) = over vm.place.base image (boot_bytes vms images)
+
+-- the virtual number of a physical core in its VM
+abbrev pub virtual_core : VmData → ℕ → Option ℕ
+virtual_core vm core = position_from (λ own. own == core) 0 vm.cores
+
+abbrev pub core_of_vm : VmData → Option ℕ → CoreData
+core_of_vm vm None = reset_core 0
+core_of_vm vm (Some zero) = record (reset_core 0) { pc = vm.start }
+core_of_vm vm (Some (suc j)) = reset_core (suc j)
+
+-- every core is reset; virtual core 0 of each VM begins at its start
+abbrev pub boot_core : Option VmData → ℕ → CoreData
+boot_core None core = reset_core 0
+boot_core (Some vm) core = core_of_vm vm (virtual_core vm core)
+
+abbrev pub power_of_vm : Option ℕ → Power
+power_of_vm None = Off
+power_of_vm (Some zero) = On
+power_of_vm (Some (suc j)) = Off
+
+-- virtual core 0 of each VM is on, and no other
+abbrev pub boot_power : Option VmData → ℕ → Power
+boot_power None core = Off
+boot_power (Some vm) core = power_of_vm (virtual_core vm core)
+
+abbrev pub boot : ConfigData → List (List ℕ) → Flat
+boot cfg images =
+    record {
+      bytes = boot_bytes cfg.vms images;
+      cores = map (λ place. boot_core (owner cfg place.0) place.0) (enumerate_from 0 cfg.platform.cores);
+      powers = map (λ place. boot_power (owner cfg place.0) place.0) (enumerate_from 0 cfg.platform.cores);
+      console = λ port. [];
+      count = 0;
+    }

@@ -1,0 +1,83 @@
+-- The model: one flat machine of all VMs, which asks the configuration's map for each byte. There is no EL2 entry and no hypervisor in it.
+use Rattle.std.specs.Prelude.{ℕ, ◌+◌, ◌&&◌, Bool, true, false, if◌then◌else◌, List, [], ◌∷◌, is_some, is_none, Option, None, Some, slice_get, slice_set}
+use Rattle.a64_state.specs.Core.{CoreData}
+use Rattle.bao_config.specs.Data.{ConfigData}
+use Rattle.bao_wellformed.specs.Map.{owner, is_platform_port, by_map}
+use Rattle.board.specs.Attempt.{Reach, reach_of, Effect, attempt, core_of, stored_of}
+use Rattle.board.specs.Machine.{core_at, written}
+
+-- whether a core runs. Nothing turns one on or off yet
+pub data Power : Type 0 where
+  On : Power
+  Off : Power
+
+-- memory by address, each core's registers and power by its number, what each port has put out, and the count of the last step
+pub record Flat : Type 0 where
+  pub bytes : ℕ → ℕ
+  pub cores : List CoreData
+  pub powers : List Power
+  pub console : ℕ → List ℕ
+  pub count : ℕ
+
+-- what happens to the flat machine. A schedule has steps alone; a lone run also has what others wrote in shared windows
+pub data FlatEvent : Type 0 where
+  Step : (core count : ℕ) → FlatEvent
+  Wrote : List (ℕ × ℕ) → FlatEvent
+
+abbrev pub is_on : Option Power → Bool
+is_on None = false
+is_on (Some On) = true
+is_on (Some Off) = false
+
+-- the core has a VM and is on
+abbrev pub runs : ConfigData → Flat → ℕ → Bool
+runs cfg f core = is_some (owner cfg core) && is_on (slice_get f.powers core)
+
+-- what a core reaches by the map
+abbrev pub flat_reach : ConfigData → Flat → ℕ → Reach
+flat_reach cfg f core = reach_of (by_map cfg core) (is_platform_port cfg) f.bytes
+
+-- what a step of the core does at a count
+abbrev pub flat_attempt : ConfigData → Flat → ℕ → ℕ → Option Effect
+flat_attempt cfg f core now = attempt (flat_reach cfg f core) (core_at f.cores core) now
+
+-- after a step of a core that runs
+abbrev pub flat_stepped : ConfigData → Flat → ℕ → ℕ → Flat
+flat_stepped cfg f core now =
+    record f {
+      bytes = written (stored_of (flat_attempt cfg f core now)) f.bytes;
+      cores = slice_set f.cores core (core_of (core_at f.cores core) (flat_attempt cfg f core now));
+      count = now;
+    }
+
+abbrev pub flat_step : ConfigData → Flat → FlatEvent → Flat
+flat_step cfg f (Step core now) = if runs cfg f core then flat_stepped cfg f core now else f
+flat_step cfg f (Wrote stores) = record f { bytes = written stores f.bytes }
+
+-- a whole run, from a state on
+abbrev pub flat_run : ConfigData → Flat → List FlatEvent → Flat
+flat_run cfg f [] = f
+flat_run cfg f (event ∷ events) = flat_run cfg (flat_step cfg f event) events
+
+-- the event enters a core: a step of a core that runs
+abbrev pub is_entered : ConfigData → Flat → FlatEvent → Bool
+is_entered cfg f (Step core now) = runs cfg f core
+is_entered cfg f (Wrote stores) = false
+
+-- how many events enter a core
+abbrev pub entered_count : ConfigData → Flat → List FlatEvent → ℕ
+entered_count cfg f [] = 0
+entered_count cfg f (event ∷ events) =
+    (if is_entered cfg f event then 1 else 0) + entered_count cfg (flat_step cfg f event) events
+
+-- the event does something that isn't built
+abbrev pub is_event_unbuilt : ConfigData → Flat → FlatEvent → Bool
+is_event_unbuilt cfg f (Step core now) =
+    runs cfg f core && is_none (flat_attempt cfg f core now)
+is_event_unbuilt cfg f (Wrote stores) = false
+
+-- the number of the first event that does something that isn't built, counted on from a number
+abbrev pub first_unbuilt : ConfigData → Flat → ℕ → List FlatEvent → Option ℕ
+first_unbuilt cfg f n [] = None
+first_unbuilt cfg f n (event ∷ events) =
+    if is_event_unbuilt cfg f event then Some n else first_unbuilt cfg (flat_step cfg f event) (n + 1) events

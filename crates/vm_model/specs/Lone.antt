@@ -1,0 +1,65 @@
+-- A VM alone: its own configuration, what it sees of a run, and its own run over that.
+use Rattle.std.specs.Prelude.{ℕ, ◌==◌, Bool, true, false, if◌then◌else◌, List, [], ◌∷◌, ◌++◌, filter, Option, None, Some, slice_get, option_to_list}
+use Rattle.std.specs.List.{position_from}
+use Rattle.bao_config.specs.Data.{ConfigData, VmData}
+use Rattle.bao_wellformed.specs.Map.{Kind, Ram, Port, Window, Hole, kind_at, has_core}
+use Rattle.board.specs.Attempt.{stored_of}
+use Rattle.vm_model.specs.Flat.{Flat, FlatEvent, Step, Wrote, runs, flat_attempt, flat_step, flat_run}
+use Rattle.vm_model.specs.Boot.{boot}
+
+-- the configuration with this VM as its only one; the platform, the hypervisor's range and the shared memories stay
+abbrev pub only : ConfigData → ℕ → ConfigData
+only cfg v = record cfg { vms = option_to_list (slice_get cfg.vms v) }
+
+abbrev pub is_window : Kind → Bool
+is_window (Ram write exec) = false
+is_window (Port id) = false
+is_window (Window shmem write) = true
+is_window Hole = false
+
+-- the byte is a window in the VM, where there is such a VM
+abbrev pub is_in_window : ConfigData → Option VmData → ℕ → Bool
+is_in_window cfg None at = false
+is_in_window cfg (Some vm) at = is_window (kind_at cfg vm at)
+
+-- the writes as an event of the lone run; none at all is no event
+abbrev pub as_event : List (ℕ × ℕ) → List FlatEvent
+as_event [] = []
+as_event (store ∷ stores) = Wrote (store ∷ stores) ∷ []
+
+-- the bytes that a step stores, each with its address, in order
+abbrev pub stored : ConfigData → Flat → ℕ → ℕ → List (ℕ × ℕ)
+stored cfg f core now = stored_of (flat_attempt cfg f core now)
+
+-- what an event of another brings into the VM's run: the bytes that it stores in the VM's windows
+abbrev pub emitted : ConfigData → Flat → ℕ → FlatEvent → List FlatEvent
+emitted cfg f v (Step core now) =
+    if runs cfg f core
+    then as_event (filter (λ store. is_in_window cfg (slice_get cfg.vms v) store.0) (stored cfg f core now))
+    else []
+emitted cfg f v (Wrote stores) = []
+
+abbrev pub is_place : ℕ → Option ℕ → Bool
+is_place v None = false
+is_place v (Some w) = w == v
+
+-- the core is one of the VM's
+abbrev pub is_core_of : ConfigData → ℕ → ℕ → Bool
+is_core_of cfg v core = is_place v (position_from (has_core core) 0 cfg.vms)
+
+-- what an event is in the VM's own run: a step of its own core stays, and of any other event what it emits
+abbrev pub seen : ConfigData → Flat → ℕ → FlatEvent → List FlatEvent
+seen cfg f v (Step core now) =
+    if is_core_of cfg v core then Step core now ∷ [] else emitted cfg f v (Step core now)
+seen cfg f v (Wrote stores) = []
+
+-- the events of the VM's own run, from a state of the whole machine on
+abbrev pub view : ConfigData → Flat → ℕ → List FlatEvent → List FlatEvent
+view cfg f v [] = []
+view cfg f v (event ∷ events) = seen cfg f v event ++ view cfg (flat_step cfg f event) v events
+
+-- where the VM is after its own run, alone on the machine
+abbrev pub lone : ConfigData → List (List ℕ) → List FlatEvent → ℕ → Flat
+lone cfg images events v =
+    flat_run (only cfg v) (boot (only cfg v) (option_to_list (slice_get images v)))
+    (view cfg (boot cfg images) v events)

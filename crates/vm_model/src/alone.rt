@@ -1,0 +1,27 @@
+ghost use Rattle.vm_model.specs.Alone.{OwnStepsAgree, OtherStepsAgree, RunsAsIfAlone, SeesItsOwn};
+
+/// A step of a core of a VM does the same to it in the whole machine and alone on it. The function does nothing; its
+/// contract is the law.
+pub fn a_vm_steps_as_if_alone()
+    ensures { OwnStepsAgree }
+{}
+
+/// A step of any other core does to a VM that the configuration keeps apart from the others what it emits: the writes of
+/// bytes in the VM's windows, and nothing else. The function does nothing; its contract is the law.
+pub fn others_only_write_windows()
+    ensures { OtherStepsAgree }
+{}
+
+/// A VM's view of a run has steps of its own cores and writes of bytes in its windows, and nothing else of the others. The
+/// function does nothing; its contract is the law.
+#[tactic(auto, using(crate::proofs::View::sees_its_own))]
+pub fn a_view_has_nothing_else()
+    ensures { SeesItsOwn }
+{}
+
+/// After every schedule, a VM that the configuration keeps apart from the others has the memory, registers, powers and
+/// consoles that it has after its own run: alone on the machine, over its own steps and what the others stored in its
+/// windows. The function does nothing; its contract is the law.
+pub fn a_vm_runs_as_if_alone()
+    ensures { RunsAsIfAlone }
+{}
