@@ -1,8 +1,8 @@
 -- One instruction of one core: its fetch is judged byte by byte, then the word is decoded; what it asks of memory is judged
 -- byte by byte, and carried out in address order.
-use Rattle.std.specs.Prelude.{ℕ, zero, suc, ◌+◌, ◌/◌, ◌%◌, ◌^◌, ◌==◌, ◌&&◌, not, Bool, true, false, if◌then◌else◌, List, [], ◌∷◌, Option, None, Some}
+use Rattle.std.specs.Prelude.{ℕ, zero, suc, ◌/◌, ◌%◌, ◌==◌, ◌&&◌, not, Bool, true, false, if◌then◌else◌, List, [], ◌∷◌, Option, None, Some}
 use Rattle.std.specs.Option.{option_map}
-use Rattle.bao_types.specs.Bytes.{little_endian}
+use Rattle.bao_types.specs.Bytes.{little_endian, next_address}
 use Rattle.bao_types.specs.declared.access.Access.{Access}
 use Rattle.bao_types.specs.declared.access.Access.TheVariants.{Read, Write, Exec}
 use Rattle.bao_types.specs.declared.access.Verdict.{Verdict}
@@ -15,10 +15,6 @@ use Rattle.a64_execute.specs.declared.need.Need.TheVariants.{Done, Load, Store, 
 use Rattle.a64_execute.specs.Want.{wanted, bytes_of}
 use Rattle.a64_execute.specs.Finish.{finished}
 use Rattle.board.specs.Stage2.{Stage2}
-
--- the address behind this one; addresses wrap at 2^64
-abbrev pub next_address : ℕ → ℕ
-next_address at = (at + 1) % 2 ^ 64
 
 -- so many bytes of memory from an address on, and the number that they are
 abbrev pub bytes_from : (ℕ → ℕ) → ℕ → ℕ → List ℕ

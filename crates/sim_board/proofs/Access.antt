@@ -3,7 +3,8 @@ use Rattle.std.proofs.Common.{◌≡◌, ℕ, zero, suc, ◌+◌, ◌-◌, ◌*�
 use Rattle.std.specs.Prelude.{IsTrue, ◌&&◌}
 use Rattle.std.proofs.Math.Nat.{mod-add-mod, pow-suc, pow-le-pow_right}
 use Rattle.std.proofs.Common.{lit<}
-use Rattle.board.specs.Attempt.{next_address, all_from, number_at, stores_from}
+use Rattle.bao_types.specs.Bytes.{next_address}
+use Rattle.board.specs.Attempt.{all_from, number_at, stores_from}
 
 -- the address behind one that was counted on
 pub next_of : (at k : ℕ) → next_address ((at + k) % 2 ^ 64) ≡ (at + (k + 1)) % 2 ^ 64
