@@ -1,19 +1,19 @@
 -- Entries that realise a map have its verdicts.
 use Rattle.std.specs.Prelude.{◌==◌, not, if◌then◌else◌}
-use Rattle.std.proofs.Common.{◌≡◌, ℕ, ◌+◌, ◌*◌, ◌/◌, ◌%◌, ◌<◌, Bool, true, false, List, refl, ap, ◌∙◌, arith}
+use Rattle.std.proofs.Common.{◌≡◌, ℕ, ◌+◌, ◌*◌, ◌/◌, ◌%◌, ◌<◌, Bool, true, false, List, refl, ap, arith}
 use Rattle.bao_types.specs.declared.access.Access.{Access}
 use Rattle.bao_types.specs.declared.access.Access.TheVariants.{Read, Write, Exec}
 use Rattle.bao_types.specs.declared.access.Class.{Class}
 use Rattle.bao_types.specs.declared.access.Class.TheVariants.{Nothing, Hyp, Guest}
 use Rattle.bao_types.specs.declared.region.Region.{Region}
 use Rattle.bao_types.specs.Bits.{field}
-use Rattle.bao_types.specs.Region.{matching_regions, first_byte, access_permission, is_execute_never}
+use Rattle.bao_types.specs.Region.{matching_regions, access_permission, is_execute_never}
 use Rattle.bao_types.specs.RegionMatch.{match_of}
 use Rattle.pmsa_stage2.specs.Stage2.{entry_verdict, match_verdict, stage2}
 use Rattle.bao_config.specs.Data.{ConfigData}
 use Rattle.bao_wellformed.specs.Map.{class_of, verdict_of, by_map}
 use Rattle.board.specs.Stage2.{by_entries}
-use Rattle.bao_run.specs.Realises.{IsOneOf, AreOfClass, Realises}
+use Rattle.bao_run.specs.Realises.{AreOfClass, Realises}
 
 -- the fields of a base register
 ap_of_0 : (base first : ℕ) → base ≡ first * 64 + 2 → base / 4 % 4 ≡ 0

@@ -1,14 +1,15 @@
 -- A core whose entries realise the map steps on the board as in the model; the sample's packing realises its map.
-use Rattle.std.proofs.Common.{◌≡◌, ℕ, ◌+◌, Bool, true, false, List, [], ◌∷◌, map, refl, sym, ap, subst, ◌∙◌, arith}
+use Rattle.std.proofs.Common.{◌≡◌, ℕ, zero, suc, ◌+◌, ◌<◌, Bool, true, false, List, [], ◌∷◌, map, refl, sym, ap, subst, ◌∙◌, arith}
 use Rattle.std.specs.Prelude.{IsTrue, if◌then◌else◌, nat_le, nat_lt, ◌&&◌, ◌||◌, slice_set, is_none}
 use Rattle.std.specs.List.{find}
 use Rattle.std.proofs.lemmas.Bool.Decides.{nat_tests}
+use Rattle.bao_types.specs.declared.region.Region.{Region}
 use Rattle.bao_types.specs.ByteRange.{is_within, is_in_one}
 use Rattle.bao_types.specs.Region.{covers, matching_regions}
 use Rattle.bao_types.specs.Shape.{is_port_of, port_range}
 use Rattle.bao_config.specs.Data.{ConfigData, VmData}
 use Rattle.bao_config.specs.declared.config.PortPlace.{PortPlace}
-use Rattle.bao_wellformed.specs.Map.{has_port, is_platform_port, class_of, by_map}
+use Rattle.bao_wellformed.specs.Map.{has_port, class_of, by_map}
 use Rattle.board.specs.declared.board.Exit.TheVariants as exit
 use Rattle.board.specs.Attempt.{reach_of, attempt, core_of, stored_of}
 use Rattle.board.specs.Machine.{Machine, core_at, entries_at, is_port, written, machine_reach, step_attempt, stepped, step_is_unbuilt}
@@ -17,7 +18,7 @@ use Rattle.vm_model.specs.Project.{project}
 use Rattle.report.specs.Sample.{sample}
 use Rattle.bao_run.specs.Sample.{sample_packing, hypervisor_entry, memory_entry, console_entry}
 use Rattle.bao_run.specs.Shape.{core_mask, shape_of}
-use Rattle.bao_run.specs.Realises.{AreOfClass, Realises}
+use Rattle.bao_run.specs.Realises.{AreOfClass, Realises, ArePacked}
 use Rattle.bao_run.specs.Steps.{IsStepAlike, StepsAlike}
 use Rattle.bao_run.proofs.Realises.{verdicts_alike}
 
@@ -64,6 +65,13 @@ pub realises : Realises sample_packing sample 0
 realises at =
     by_tests at (hypervisor_test at) (memory_test at) (console_test at) refl refl refl
     (in_hypervisor at) (in_memory at) (in_console at)
+
+pub sample_is_packed : (entries : List (List Region)) → entries ≡ sample_packing ∷ [] → ArePacked sample entries
+sample_is_packed entries packed = record { realised = at_core }
+  where
+    at_core : (core : ℕ) → core < 1 → Realises (entries_at entries core) sample core
+    at_core zero low = subst (λ es. Realises (entries_at es 0) sample 0) (sym packed) realises
+    at_core (suc core) low = absurd (omega arith)
 
 -- the ports that the board of a configuration has are those of its platform
 ports_alike : (vms : List VmData) (ports : List PortPlace) (at : ℕ)

@@ -1,11 +1,12 @@
 -- When the EL2 entries of a core realise the map of a configuration.
-use Rattle.std.specs.Prelude.{◌≡◌, ℕ, ◌+◌, ◌*◌, Bool, if◌then◌else◌, List, [], ◌∷◌}
+use Rattle.std.specs.Prelude.{◌≡◌, ℕ, ◌+◌, ◌*◌, ◌<◌, if◌then◌else◌, List, [], ◌∷◌, length}
 use Rattle.bao_types.specs.declared.access.Class.{Class}
 use Rattle.bao_types.specs.declared.access.Class.TheVariants.{Nothing, Hyp, Guest}
 use Rattle.bao_types.specs.declared.region.Region.{Region}
 use Rattle.bao_types.specs.Region.{first_byte, last_byte, matching_regions}
 use Rattle.bao_config.specs.Data.{ConfigData}
 use Rattle.bao_wellformed.specs.Map.{class_of}
+use Rattle.board.specs.Machine.{entries_at}
 
 -- AP and XN as they stand in the base register: AP 0 is for EL2 alone, 1 lets a guest write, 3 read alone
 abbrev pub base_bits : Class → ℕ
@@ -35,3 +36,7 @@ AreOfClass (Guest write exec port) entries = IsOneOf (Guest write exec port) ent
 -- so are the enabled entries that contain a byte, for every byte
 abbrev pub Realises : List Region → ConfigData → ℕ → Type 0
 Realises entries cfg core = (at : ℕ) → AreOfClass (class_of cfg core at) (matching_regions entries at)
+
+-- each core of a platform has entries that realise the map for it
+pub record ArePacked (cfg : ConfigData) (entries : List (List Region)) : Type 0 where
+  pub realised : (core : ℕ) → core < length cfg.platform.cores → Realises (entries_at entries core) cfg core
