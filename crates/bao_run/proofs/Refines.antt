@@ -18,7 +18,8 @@ use Rattle.vm_model.specs.Project.{project}
 use Rattle.report.specs.Sample.{sample}
 use Rattle.bao_run.specs.Sample.{sample_packing, hypervisor_entry, memory_entry, console_entry}
 use Rattle.bao_run.specs.Shape.{core_mask, shape_of}
-use Rattle.bao_run.specs.Realises.{AreOfClass, Realises, ArePacked}
+use Rattle.bao_run.specs.Packing.{IsRealised, Realises}
+use Rattle.bao_run.specs.Packed.{ArePacked}
 use Rattle.bao_run.specs.Steps.{IsStepAlike, StepsAlike}
 use Rattle.bao_run.proofs.Realises.{verdicts_alike}
 
@@ -48,20 +49,20 @@ module _ (at : ℕ) where
 
   by_tests : (h m p : Bool) → hypervisor_test ≡ h → memory_test ≡ m → console_test ≡ p
       → covers hypervisor_entry at ≡ h → covers memory_entry at ≡ m → covers console_entry at ≡ p
-      → AreOfClass (class_of sample 0 at) (matching_regions sample_packing at)
+      → IsRealised (class_of sample 0 at) (matching_regions sample_packing at)
   by_tests true true p eh em ep ch cm cp = absurd (grind (arith, nat_tests))
   by_tests true false true eh em ep ch cm cp = absurd (grind (arith, nat_tests))
   by_tests false true true eh em ep ch cm cp = absurd (grind (arith, nat_tests))
   by_tests true false false eh em ep ch cm cp =
-      rw (ch, cm, cp, eh) (record { entry = hypervisor_entry; alone = refl; base = refl; limit = refl })
+      rw (ch, cm, cp, eh) (hypervisor_entry, refl, record { permission = refl; execute_never = refl; attribute = refl; shareability = refl; non_secure = refl })
   by_tests false true false eh em ep ch cm cp =
-      rw (ch, cm, cp, eh, em, ep) (record { entry = memory_entry; alone = refl; base = refl; limit = refl })
+      rw (ch, cm, cp, eh, em, ep) (memory_entry, refl, record { permission = refl; execute_never = refl; attribute = refl; shareability = refl; non_secure = refl })
   by_tests false false true eh em ep ch cm cp =
-      rw (ch, cm, cp, eh, ep) (record { entry = console_entry; alone = refl; base = refl; limit = refl })
+      rw (ch, cm, cp, eh, ep) (console_entry, refl, record { permission = refl; execute_never = refl; attribute = refl; shareability = refl; non_secure = refl })
   by_tests false false false eh em ep ch cm cp = rw (ch, cm, cp, eh, em, ep) refl
 
 -- the packing realises the map
-pub realises : Realises sample_packing sample 0
+pub realises : Realises sample_packing (class_of sample 0)
 realises at =
     by_tests at (hypervisor_test at) (memory_test at) (console_test at) refl refl refl
     (in_hypervisor at) (in_memory at) (in_console at)
@@ -69,8 +70,8 @@ realises at =
 pub sample_is_packed : (entries : List (List Region)) → entries ≡ sample_packing ∷ [] → ArePacked sample entries
 sample_is_packed entries packed = record { realised = at_core }
   where
-    at_core : (core : ℕ) → core < 1 → Realises (entries_at entries core) sample core
-    at_core zero low = subst (λ es. Realises (entries_at es 0) sample 0) (sym packed) realises
+    at_core : (core : ℕ) → core < 1 → Realises (entries_at entries core) (class_of sample core)
+    at_core zero low = subst (λ es. Realises (entries_at es 0) (class_of sample 0)) (sym packed) realises
     at_core (suc core) low = absurd (omega arith)
 
 -- the ports that the board of a configuration has are those of its platform
@@ -87,7 +88,7 @@ ports_alike vms (port ∷ ports) at = ap (λ b. is_within (port_range port.base)
 
 -- a core whose entries realise the map
 module _ (cfg : ConfigData) (m : Machine) (powers : List Power) (core now : ℕ)
-    (realised : Realises (entries_at m.entries core) cfg core) (shaped : m.shape ≡ shape_of cfg m.shape.events)
+    (realised : Realises (entries_at m.entries core) (class_of cfg core)) (shaped : m.shape ≡ shape_of cfg m.shape.events)
     (running : IsTrue (runs cfg (project powers m) core)) where
   -- what it reaches is what it reaches by the map
   reach_alike : machine_reach m core ≡ flat_reach cfg (project powers m) core
@@ -128,7 +129,7 @@ module _ (m : Machine) (core now : ℕ) (own : core ≡ 0) (packed : m.entries �
   alike : IsStepAlike sample m (On ∷ []) core now
   alike =
       subst (λ c. IsStepAlike sample m (On ∷ []) c now) (sym own)
-      (steps_alike sample m (On ∷ []) 0 now (subst (λ entries. Realises (entries_at entries 0) sample 0) (sym packed) realises) shaped refl)
+      (steps_alike sample m (On ∷ []) 0 now (subst (λ entries. Realises (entries_at entries 0) (class_of sample 0)) (sym packed) realises) shaped refl)
 
   pub unbuilt_alike_at : step_is_unbuilt m core now ≡ is_event_unbuilt sample (project (On ∷ []) m) (Step core now)
   unbuilt_alike_at = alike.unbuilt

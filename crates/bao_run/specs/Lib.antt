@@ -1,6 +1,7 @@
 pub mod Sample
 pub mod Shape
-pub mod Realises
+pub mod Packing
+pub mod Packed
 pub mod Words
 pub mod Command
 pub mod Schedule

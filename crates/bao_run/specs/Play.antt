@@ -13,7 +13,7 @@ use Rattle.vm_model.specs.Project.{project}
 use Rattle.bao_run.specs.Call.{InputData, SinkUse, BoardUse, IsTaken, IsCut, IsPut}
 use Rattle.bao_run.specs.Shape.{shape_of}
 use Rattle.bao_run.specs.Sample.{sample_packing}
-use Rattle.bao_run.specs.Realises.{ArePacked}
+use Rattle.bao_run.specs.Packed.{ArePacked}
 use Rattle.bao_run.specs.Fresh.{booted_machine}
 
 -- the machine of the model at boot, and after all events
