@@ -3,7 +3,7 @@ use Rattle.std.proofs.Common.{◌≡◌, ℕ, zero, suc, ◌/◌, ◌%◌, Bool,
 use Rattle.std.specs.Prelude.{IsTrue, IsFalse, ◌&&◌, ◌==◌, if◌then◌else◌, Option, None, Some}
 use Rattle.std.proofs.lemmas.Bool.Decides.{nat_tests}
 use Rattle.std.specs.Option.{option_map}
-use Rattle.bao_types.specs.Bytes.{little_endian, next_address}
+use Rattle.bao_types.specs.Bytes.{little_endian}
 use Rattle.bao_types.specs.declared.access.Access.{Access}
 use Rattle.bao_types.specs.declared.access.Access.TheVariants.{Read, Write, Exec}
 use Rattle.a64_state.specs.Core.{CoreData}
@@ -13,6 +13,7 @@ use Rattle.a64_execute.specs.declared.need.Need.{Need}
 use Rattle.a64_execute.specs.declared.need.Need.TheVariants as need
 use Rattle.a64_execute.specs.Want.{wanted, bytes_of}
 use Rattle.board.specs.Stage2.{Stage2}
+use Rattle.bao_types.specs.Bytes.{next_address}
 use Rattle.board.specs.Attempt.{all_from, bytes_from, number_at, reaches, reach_of, stores_from, effect_of, word_effect, attempt, stored_of}
 use Rattle.board.specs.Machine.{with_byte, written}
 use Rattle.board.specs.Reached.{DisturbsNothingElse, AreAlike, ObservesNothingElse}
