@@ -12,7 +12,7 @@ use Rattle.pmsa_stage2.specs.Stage2.{entry_verdict, match_verdict, stage2}
 use Rattle.bao_config.specs.Data.{ConfigData}
 use Rattle.bao_wellformed.specs.Map.{class_of, verdict_of, by_map}
 use Rattle.board.specs.Stage2.{by_entries}
-use Rattle.bao_run.specs.Packing.{HasBits, IsRealised, Realises}
+use Rattle.bao_run.specs.Packing.{IsRealised, Realises}
 
 -- the verdict of an entry with the bits of a class
 by_hyp : (entry : Region) (access : Access) → access_permission entry ≡ 0 → entry_verdict entry access ≡ verdict_of Hyp access
