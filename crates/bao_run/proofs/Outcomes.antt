@@ -12,7 +12,7 @@ use Rattle.bao_run.specs.Call.{Files, Call, IsFaultless, IsPut}
 use Rattle.bao_run.specs.Ruling.{Ruling, Refused, Accept, ruling, rule_command, rule_config}
 use Rattle.bao_run.specs.Input.{IfHeld, IsReached, IsRefused, IsInput, input_data}
 use Rattle.bao_run.specs.Play.{IsPlayed}
-use Rattle.bao_run.specs.Outcome.{Outcome, IsRunnable, IsAccepted}
+use Rattle.bao_run.specs.Outcome.{Outcome, IsAccepted}
 use Rattle.bao_run.specs.declared.input.Input.{Input}
 
 -- a fact on all files

@@ -1,14 +1,15 @@
 -- A core whose entries realise the map steps on the board as in the model; the sample's packing realises its map.
-use Rattle.std.proofs.Common.{◌≡◌, ℕ, ◌+◌, Bool, true, false, List, [], ◌∷◌, map, refl, sym, ap, subst, ◌∙◌, arith}
+use Rattle.std.proofs.Common.{◌≡◌, ℕ, zero, suc, ◌+◌, ◌<◌, Bool, true, false, List, [], ◌∷◌, map, refl, sym, ap, subst, ◌∙◌, arith}
 use Rattle.std.specs.Prelude.{IsTrue, if◌then◌else◌, nat_le, nat_lt, ◌&&◌, ◌||◌, slice_set, is_none}
 use Rattle.std.specs.List.{find}
 use Rattle.std.proofs.lemmas.Bool.Decides.{nat_tests}
+use Rattle.bao_types.specs.declared.region.Region.{Region}
 use Rattle.bao_types.specs.ByteRange.{is_within, is_in_one}
 use Rattle.bao_types.specs.Region.{covers, matching_regions}
 use Rattle.bao_types.specs.Shape.{is_port_of, port_range}
 use Rattle.bao_config.specs.Data.{ConfigData, VmData}
 use Rattle.bao_config.specs.declared.config.PortPlace.{PortPlace}
-use Rattle.bao_wellformed.specs.Map.{has_port, is_platform_port, class_of, by_map}
+use Rattle.bao_wellformed.specs.Map.{has_port, class_of, by_map}
 use Rattle.board.specs.declared.board.Exit.TheVariants as exit
 use Rattle.board.specs.Attempt.{reach_of, attempt, core_of, stored_of}
 use Rattle.board.specs.Machine.{Machine, core_at, entries_at, is_port, written, machine_reach, step_attempt, stepped, step_is_unbuilt}
@@ -17,7 +18,8 @@ use Rattle.vm_model.specs.Project.{project}
 use Rattle.report.specs.Sample.{sample}
 use Rattle.bao_run.specs.Sample.{sample_packing, hypervisor_entry, memory_entry, console_entry}
 use Rattle.bao_run.specs.Shape.{core_mask, shape_of}
-use Rattle.bao_run.specs.Realises.{AreOfClass, Realises}
+use Rattle.bao_run.specs.Packing.{IsRealised, Realises}
+use Rattle.bao_run.specs.Packed.{ArePacked}
 use Rattle.bao_run.specs.Steps.{IsStepAlike, StepsAlike}
 use Rattle.bao_run.proofs.Realises.{verdicts_alike}
 
@@ -47,23 +49,30 @@ module _ (at : ℕ) where
 
   by_tests : (h m p : Bool) → hypervisor_test ≡ h → memory_test ≡ m → console_test ≡ p
       → covers hypervisor_entry at ≡ h → covers memory_entry at ≡ m → covers console_entry at ≡ p
-      → AreOfClass (class_of sample 0 at) (matching_regions sample_packing at)
+      → IsRealised (class_of sample 0 at) (matching_regions sample_packing at)
   by_tests true true p eh em ep ch cm cp = absurd (grind (arith, nat_tests))
   by_tests true false true eh em ep ch cm cp = absurd (grind (arith, nat_tests))
   by_tests false true true eh em ep ch cm cp = absurd (grind (arith, nat_tests))
   by_tests true false false eh em ep ch cm cp =
-      rw (ch, cm, cp, eh) (record { entry = hypervisor_entry; alone = refl; base = refl; limit = refl })
+      rw (ch, cm, cp, eh) (hypervisor_entry, refl, record { permission = refl; execute_never = refl; attribute = refl; shareability = refl; non_secure = refl })
   by_tests false true false eh em ep ch cm cp =
-      rw (ch, cm, cp, eh, em, ep) (record { entry = memory_entry; alone = refl; base = refl; limit = refl })
+      rw (ch, cm, cp, eh, em, ep) (memory_entry, refl, record { permission = refl; execute_never = refl; attribute = refl; shareability = refl; non_secure = refl })
   by_tests false false true eh em ep ch cm cp =
-      rw (ch, cm, cp, eh, ep) (record { entry = console_entry; alone = refl; base = refl; limit = refl })
+      rw (ch, cm, cp, eh, ep) (console_entry, refl, record { permission = refl; execute_never = refl; attribute = refl; shareability = refl; non_secure = refl })
   by_tests false false false eh em ep ch cm cp = rw (ch, cm, cp, eh, em, ep) refl
 
 -- the packing realises the map
-pub realises : Realises sample_packing sample 0
+pub realises : Realises sample_packing (class_of sample 0)
 realises at =
     by_tests at (hypervisor_test at) (memory_test at) (console_test at) refl refl refl
     (in_hypervisor at) (in_memory at) (in_console at)
+
+pub sample_is_packed : (entries : List (List Region)) → entries ≡ sample_packing ∷ [] → ArePacked sample entries
+sample_is_packed entries packed = record { realised = at_core }
+  where
+    at_core : (core : ℕ) → core < 1 → Realises (entries_at entries core) (class_of sample core)
+    at_core zero low = subst (λ es. Realises (entries_at es 0) (class_of sample 0)) (sym packed) realises
+    at_core (suc core) low = absurd (omega arith)
 
 -- the ports that the board of a configuration has are those of its platform
 ports_alike : (vms : List VmData) (ports : List PortPlace) (at : ℕ)
@@ -79,7 +88,7 @@ ports_alike vms (port ∷ ports) at = ap (λ b. is_within (port_range port.base)
 
 -- a core whose entries realise the map
 module _ (cfg : ConfigData) (m : Machine) (powers : List Power) (core now : ℕ)
-    (realised : Realises (entries_at m.entries core) cfg core) (shaped : m.shape ≡ shape_of cfg m.shape.events)
+    (realised : Realises (entries_at m.entries core) (class_of cfg core)) (shaped : m.shape ≡ shape_of cfg m.shape.events)
     (running : IsTrue (runs cfg (project powers m) core)) where
   -- what it reaches is what it reaches by the map
   reach_alike : machine_reach m core ≡ flat_reach cfg (project powers m) core
@@ -120,7 +129,7 @@ module _ (m : Machine) (core now : ℕ) (own : core ≡ 0) (packed : m.entries �
   alike : IsStepAlike sample m (On ∷ []) core now
   alike =
       subst (λ c. IsStepAlike sample m (On ∷ []) c now) (sym own)
-      (steps_alike sample m (On ∷ []) 0 now (subst (λ entries. Realises (entries_at entries 0) sample 0) (sym packed) realises) shaped refl)
+      (steps_alike sample m (On ∷ []) 0 now (subst (λ entries. Realises (entries_at entries 0) (class_of sample 0)) (sym packed) realises) shaped refl)
 
   pub unbuilt_alike_at : step_is_unbuilt m core now ≡ is_event_unbuilt sample (project (On ∷ []) m) (Step core now)
   unbuilt_alike_at = alike.unbuilt

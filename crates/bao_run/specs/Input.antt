@@ -4,7 +4,7 @@ use Rattle.std.specs.declared.alloc.Global.{Global}
 use Rattle.std.specs.Option.{option_map}
 use Rattle.bao_types.specs.Shape.{event_limit}
 use Rattle.outside.specs.Shelf.{IfTold}
-use Rattle.bao_config.specs.Data.{ConfigData, VmData}
+use Rattle.bao_config.specs.Data.{ConfigData}
 use Rattle.report.specs.declared.status.FileId.{FileId}
 use Rattle.report.specs.declared.status.FileId.TheVariants as file
 use Rattle.report.specs.declared.status.Part.{Part}

@@ -1,5 +1,7 @@
 pub mod Sample
 pub mod Shape
+pub mod Packing
+pub mod Packed
 pub mod Words
 pub mod Command
 pub mod Schedule
@@ -10,7 +12,6 @@ pub mod Fresh
 pub mod Input
 pub mod Outcome
 pub mod Play
-pub mod Realises
 pub mod Steps
 pub mod Answers
 pub mod SureAnswers

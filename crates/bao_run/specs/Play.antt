@@ -13,6 +13,7 @@ use Rattle.vm_model.specs.Project.{project}
 use Rattle.bao_run.specs.Call.{InputData, SinkUse, BoardUse, IsTaken, IsCut, IsPut}
 use Rattle.bao_run.specs.Shape.{shape_of}
 use Rattle.bao_run.specs.Sample.{sample_packing}
+use Rattle.bao_run.specs.Packed.{ArePacked}
 use Rattle.bao_run.specs.Fresh.{booted_machine}
 
 -- the machine of the model at boot, and after all events
@@ -26,11 +27,13 @@ final input = flat_run input.cfg (booted input) input.events
 abbrev pub first_halt : InputData → Option ℕ
 first_halt input = first_unbuilt input.cfg (booted input) 0 input.events
 
--- All events were run: the board has the shape of the configuration for so many events; its core has the packing, with zero
--- entries after it; each event whose core ran has entered it; and memory, cores and consoles are those of the model.
+-- All events were run: the board has the shape of the configuration for so many events; the entries of each core realise the
+-- map, and are the packing with zero entries after it; each event whose core ran has entered it; and memory, cores and consoles
+-- are those of the model.
 pub record IsRunThrough (m : Machine) (input : InputData) : Type 0 where
   pub fitted : m.fitted ≡ true
   pub shape : m.shape ≡ shape_of input.cfg (length input.events)
+  pub packed : ArePacked input.cfg m.entries
   pub entries : m.entries ≡ sample_packing ∷ []
   pub entered : m.entered ≡ entered_count input.cfg (booted input) input.events
   pub state : project (booted input).powers m ≡ final input

@@ -1,5 +1,5 @@
 -- The board that a configuration asks for.
-use Rattle.std.specs.Prelude.{ℕ, ◌^◌, List, ◌++◌, map, sum, Option, None, Some, unwrap_or}
+use Rattle.std.specs.Prelude.{ℕ, ◌^◌, ◌++◌, map, sum, Option, None, Some, unwrap_or}
 use Rattle.std.specs.List.{enumerate_from, find, flat_map}
 use Rattle.bao_types.specs.Shape.{ShapeData}
 use Rattle.bao_config.specs.Data.{ConfigData, VmData}

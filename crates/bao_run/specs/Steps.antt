@@ -2,13 +2,13 @@
 use Rattle.std.specs.Prelude.{◌≡◌, ℕ, IsTrue, List}
 use Rattle.bao_types.specs.declared.region.Region.{Region}
 use Rattle.bao_config.specs.Data.{ConfigData}
-use Rattle.bao_wellformed.specs.Map.{by_map}
+use Rattle.bao_wellformed.specs.Map.{class_of, by_map}
 use Rattle.board.specs.Stage2.{by_entries}
 use Rattle.board.specs.Machine.{Machine, entries_at, stepped, step_is_unbuilt}
 use Rattle.vm_model.specs.Flat.{Power, Step, runs, flat_step, is_event_unbuilt}
 use Rattle.vm_model.specs.Project.{project}
 use Rattle.bao_run.specs.Shape.{shape_of}
-use Rattle.bao_run.specs.Realises.{Realises}
+use Rattle.bao_run.specs.Packing.{Realises}
 
 -- what the step leaves is what the model's step leaves, and it is built where that is
 pub record IsStepAlike (cfg : ConfigData) (m : Machine) (powers : List Power) (core now : ℕ) : Type 0 where
@@ -18,12 +18,12 @@ pub record IsStepAlike (cfg : ConfigData) (m : Machine) (powers : List Power) (c
 -- for every configuration: entries that realise its map give each access to each byte the verdict of the map
 abbrev pub VerdictsAlike : Type 0
 VerdictsAlike =
-    (entries : List Region) (cfg : ConfigData) (core : ℕ) → Realises entries cfg core → by_entries entries ≡ by_map cfg core
+    (entries : List Region) (cfg : ConfigData) (core : ℕ) → Realises entries (class_of cfg core) → by_entries entries ≡ by_map cfg core
 
 -- for every configuration: where a board has its shape, and the entries of a core realise its map, a step of the core, if it runs,
 -- is the step of the model
 abbrev pub StepsAlike : Type 0
 StepsAlike =
     (cfg : ConfigData) (m : Machine) (powers : List Power) (core now : ℕ)
-    → Realises (entries_at m.entries core) cfg core → m.shape ≡ shape_of cfg m.shape.events
+    → Realises (entries_at m.entries core) (class_of cfg core) → m.shape ≡ shape_of cfg m.shape.events
     → IsTrue (runs cfg (project powers m) core) → IsStepAlike cfg m powers core now

@@ -1,5 +1,5 @@
 -- When the top call must succeed over a shelf that never fails.
-use Rattle.std.specs.Prelude.{◌≡◌, ℕ, ◌<◌, List, Some}
+use Rattle.std.specs.Prelude.{◌≡◌, ◌<◌, Some}
 use Rattle.report.specs.declared.status.Status.{Status}
 use Rattle.bao_run.specs.Call.{Files, InputData, Call}
 use Rattle.bao_run.specs.Ruling.{Accept, ruling}

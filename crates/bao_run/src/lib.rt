@@ -14,7 +14,8 @@ mod top;
 mod words;
 
 pub use packing::{
-    a_core_steps_as_in_the_model, entries_have_the_verdicts_of_the_map, the_packing_realises_the_map,
+    a_core_steps_as_in_the_model, entries_have_the_verdicts_of_the_map,
+    the_packing_realises_the_map,
 };
 pub use sure::complete_over_a_sure_shelf;
 pub use top::run_bao;

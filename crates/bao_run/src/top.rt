@@ -87,6 +87,7 @@ fn carry_out<S: Shelf, K: Sink, B: Board>(
 }
 
 /// Boots the board with an image, takes the events and writes the report.
+#[tactic(auto, using(crate::proofs::Refines::sample_is_packed))]
 fn play<K: Sink, B: Board>(alloc: Global, sink: &mut K, board: &mut B, input: &Input) -> Status
     requires unfitted { (B.state board.old).fitted ≡ false }
     requires quiet { (B.state board.old).console ≡ (λ port. []) }

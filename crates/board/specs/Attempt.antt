@@ -1,6 +1,6 @@
 -- One instruction of one core: its fetch is judged byte by byte, then the word is decoded; what it asks of memory is judged
 -- byte by byte, and carried out in address order.
-use Rattle.std.specs.Prelude.{ℕ, zero, suc, ◌+◌, ◌/◌, ◌%◌, ◌^◌, ◌==◌, ◌&&◌, not, Bool, true, false, if◌then◌else◌, List, [], ◌∷◌, Option, None, Some}
+use Rattle.std.specs.Prelude.{ℕ, zero, suc, ◌/◌, ◌%◌, ◌==◌, ◌&&◌, not, Bool, true, false, if◌then◌else◌, List, [], ◌∷◌, Option, None, Some}
 use Rattle.std.specs.Option.{option_map}
 use Rattle.bao_types.specs.Bytes.{little_endian, next_address}
 use Rattle.bao_types.specs.declared.access.Access.{Access}

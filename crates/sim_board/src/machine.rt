@@ -18,7 +18,7 @@ use std::alloc::{AllocError, Global};
 #[derive(Drop)]
 pub struct SimBoard {
     shape: Shape,
-    /// None before the board is fitted.
+    /// The memory; none before the board is fitted.
     bank: Option<Bank>,
     cores: Vec<Core>,
     /// The EL2 entries of each core.
