@@ -12,6 +12,7 @@ use crate::bounds::{INTERRUPT, PORT_ID};
 use crate::config::Dev;
 use crate::error::{ConfigError, Spot};
 use crate::fields::{find, integer_at, items_of, only_known, table_of};
+use crate::row;
 use arrayvec::ArrayVec;
 use toml::{Table, Value};
 
@@ -22,8 +23,8 @@ fn read_dev(item: &Value, spot: Spot) -> Result<Dev, ConfigError>
         (dev_of (keys_of (Some (view item.now)))) }
 {
     let table = table_of(item, spot)?;
-    let port = integer_at(table, "port", PORT_ID, spot.at_row(41))?;
-    let irq = integer_at(table, "irq", INTERRUPT, spot.at_row(42))?;
+    let port = integer_at(table, "port", PORT_ID, spot.at_row(row::DEV_PORT))?;
+    let irq = integer_at(table, "irq", INTERRUPT, spot.at_row(row::DEV_IRQ))?;
     only_known(table, &["port", "irq"], spot)?;
     Ok(Dev {
         port: port as u8,
@@ -43,7 +44,7 @@ pub(crate) fn read_devs(table: &Table, spot: Spot) -> Result<ArrayVec<Dev, 16>, 
     };
     let items = items_of(item, 0, 16, spot)?;
     for (j, item) in items.iter().enumerate() {
-        devs.push(read_dev(item, spot.in_j(40, j as u8))?);
+        devs.push(read_dev(item, spot.in_j(row::DEV, j as u8))?);
     }
     Ok(devs)
 }

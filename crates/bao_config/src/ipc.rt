@@ -4,7 +4,8 @@ ghost use Rattle.toml.specs.Data.{get_member};
 ghost use Rattle.toml.specs.View.{view, table_view};
 ghost use Rattle.bao_config.specs.Bounds.{IsInBounds, interrupt};
 ghost use Rattle.bao_config.specs.Faults.{faults, text, or_shape, or_none};
-ghost use Rattle.bao_config.specs.KeyTable.{irqs, ipc, ipcs, is_window_access};
+ghost use Rattle.bao_config.specs.Texts.{is_window_access};
+ghost use Rattle.bao_config.specs.KeyTable.{irqs, ipc, ipcs};
 ghost use Rattle.bao_config.specs.Spelled.{ipc_of, numbers_of, tables_of, keys_of, may_write, text_of};
 ghost use Rattle.bao_config.specs.Data.{ipc_data};
 ghost use Rattle.bao_config.specs.Fits.{ListFits, IpcFits};
@@ -16,6 +17,7 @@ use crate::error::{ConfigError, Spot};
 use crate::fields::{
     find, integer_at, integer_of, items_of, only_known, required, str_at, table_of,
 };
+use crate::row;
 use arrayvec::ArrayVec;
 use toml::{Table, Value};
 
@@ -42,7 +44,7 @@ fn read_irqs(table: &Table, spot: Spot) -> Result<ArrayVec<u16, 8>, ConfigError>
     let items = items_of(item, 1, 8, spot)?;
     let mut irqs = ArrayVec::new();
     for (k, item) in items.iter().enumerate() {
-        irqs.push(integer_of(item, INTERRUPT, spot.in_k(48, k as u8))? as u16);
+        irqs.push(integer_of(item, INTERRUPT, spot.in_k(row::IRQ, k as u8))? as u16);
     }
     Ok(irqs)
 }
@@ -54,9 +56,9 @@ fn read_ipc(item: &Value, spot: Spot) -> Result<Ipc, ConfigError>
         (ipc_of (keys_of (Some (view item.now)))) }
 {
     let table = table_of(item, spot)?;
-    let shmem = integer_at(table, "shmem", SHARED, spot.at_row(45))?;
-    let write = read_access(table, spot.at_row(46))?;
-    let irqs = read_irqs(table, spot.at_row(47))?;
+    let shmem = integer_at(table, "shmem", SHARED, spot.at_row(row::IPC_SHMEM))?;
+    let write = read_access(table, spot.at_row(row::IPC_ACCESS))?;
+    let irqs = read_irqs(table, spot.at_row(row::IRQS))?;
     only_known(table, &["shmem", "access", "irqs"], spot)?;
     Ok(Ipc {
         shmem: shmem as u8,
@@ -77,7 +79,7 @@ pub(crate) fn read_ipcs(table: &Table, spot: Spot) -> Result<ArrayVec<Ipc, 8>, C
     };
     let items = items_of(item, 0, 8, spot)?;
     for (j, item) in items.iter().enumerate() {
-        ipcs.push(read_ipc(item, spot.in_j(44, j as u8))?);
+        ipcs.push(read_ipc(item, spot.in_j(row::IPC, j as u8))?);
     }
     Ok(ipcs)
 }

@@ -10,11 +10,12 @@ ghost use Rattle.bao_config.specs.Data.{platform_data};
 ghost use Rattle.bao_config.specs.Fits.{ListFits, RangeFits, PortFits, PlatformFits};
 ghost use Rattle.bao_config.specs.Answer.{Reads};
 
-use crate::bounds::{BASE, ENTRIES, FRAME, INTERRUPT, PORT_ID};
+use crate::bounds::{ENTRIES, FRAME, INTERRUPT, PORT_BASE, PORT_ID};
 use crate::config::{Platform, PortPlace};
 use crate::error::{ConfigError, Spot};
 use crate::fields::{find, integer_at, integer_of, items_of, only_known, required, table_of};
 use crate::range::read_range;
+use crate::row;
 use arrayvec::ArrayVec;
 use bao_types::ByteRange;
 use toml::{Table, Value};
@@ -29,7 +30,12 @@ fn read_banks(table: &Table, spot: Spot) -> Result<ArrayVec<ByteRange, 8>, Confi
     let items = items_of(item, 1, 8, spot)?;
     let mut banks = ArrayVec::new();
     for (i, item) in items.iter().enumerate() {
-        banks.push(read_range(item, 6, 7, spot.in_i(5, i as u8))?);
+        banks.push(read_range(
+            item,
+            row::BANK_BASE,
+            row::BANK_SIZE,
+            spot.in_i(row::BANK, i as u8),
+        )?);
     }
     Ok(banks)
 }
@@ -44,7 +50,7 @@ fn read_cores(table: &Table, spot: Spot) -> Result<ArrayVec<u8, 8>, ConfigError>
     let items = items_of(item, 1, 8, spot)?;
     let mut cores = ArrayVec::new();
     for (i, item) in items.iter().enumerate() {
-        cores.push(integer_of(item, ENTRIES, spot.in_i(9, i as u8))? as u8);
+        cores.push(integer_of(item, ENTRIES, spot.in_i(row::PLATFORM_CORE, i as u8))? as u8);
     }
     Ok(cores)
 }
@@ -56,9 +62,9 @@ fn read_port(item: &Value, spot: Spot) -> Result<PortPlace, ConfigError>
         (port_of (keys_of (Some (view item.now)))) }
 {
     let table = table_of(item, spot)?;
-    let id = integer_at(table, "id", PORT_ID, spot.at_row(14))?;
-    let base = integer_at(table, "base", BASE, spot.at_row(15))?;
-    let spi = integer_at(table, "spi", INTERRUPT, spot.at_row(16))?;
+    let id = integer_at(table, "id", PORT_ID, spot.at_row(row::PORT_ID))?;
+    let base = integer_at(table, "base", PORT_BASE, spot.at_row(row::PORT_BASE))?;
+    let spi = integer_at(table, "spi", INTERRUPT, spot.at_row(row::PORT_SPI))?;
     only_known(table, &["id", "base", "spi"], spot)?;
     Ok(PortPlace {
         id: id as u8,
@@ -79,7 +85,7 @@ fn read_ports(table: &Table, spot: Spot) -> Result<ArrayVec<PortPlace, 16>, Conf
     };
     let items = items_of(item, 0, 16, spot)?;
     for (i, item) in items.iter().enumerate() {
-        ports.push(read_port(item, spot.in_i(13, i as u8))?);
+        ports.push(read_port(item, spot.in_i(row::PORT, i as u8))?);
     }
     Ok(ports)
 }
@@ -91,11 +97,11 @@ pub(crate) fn read_platform(item: &Value, spot: Spot) -> Result<Platform, Config
         (platform_of (keys_of (Some (view item.now)))) }
 {
     let table = table_of(item, spot)?;
-    let banks = read_banks(table, spot.at_row(4))?;
-    let cores = read_cores(table, spot.at_row(8))?;
-    let gicd = integer_at(table, "gicd", FRAME, spot.at_row(10))?;
-    let gicr = integer_at(table, "gicr", FRAME, spot.at_row(11))?;
-    let ports = read_ports(table, spot.at_row(12))?;
+    let banks = read_banks(table, spot.at_row(row::BANKS))?;
+    let cores = read_cores(table, spot.at_row(row::PLATFORM_CORES))?;
+    let gicd = integer_at(table, "gicd", FRAME, spot.at_row(row::GICD))?;
+    let gicr = integer_at(table, "gicr", FRAME, spot.at_row(row::GICR))?;
+    let ports = read_ports(table, spot.at_row(row::PORTS))?;
     only_known(table, &["banks", "cores", "gicd", "gicr", "ports"], spot)?;
     Ok(Platform {
         banks,

@@ -3,7 +3,8 @@ ghost use Rattle.std.specs.Prelude.{Some, codes};
 ghost use Rattle.toml.specs.Data.{get_member};
 ghost use Rattle.toml.specs.View.{view, table_view};
 ghost use Rattle.bao_config.specs.Faults.{faults, text, or_shape};
-ghost use Rattle.bao_config.specs.KeyTable.{region, regions, is_region_access};
+ghost use Rattle.bao_config.specs.Texts.{is_region_access};
+ghost use Rattle.bao_config.specs.KeyTable.{region, regions};
 ghost use Rattle.bao_config.specs.Spelled.{region_of, tables_of, keys_of, rights_of, text_of};
 ghost use Rattle.bao_config.specs.Fits.{ListFits, RegionFits};
 ghost use Rattle.bao_config.specs.Answer.{Reads};
@@ -12,6 +13,7 @@ use crate::bounds::{BASE, SIZE};
 use crate::config::MapRegion;
 use crate::error::{ConfigError, Spot};
 use crate::fields::{integer_at, items_of, only_known, required, str_at, table_of};
+use crate::row;
 use arrayvec::ArrayVec;
 use bao_types::ByteRange;
 use toml::{Table, Value};
@@ -38,9 +40,9 @@ fn read_region(item: &Value, spot: Spot) -> Result<MapRegion, ConfigError>
         (region_of (keys_of (Some (view item.now)))) }
 {
     let table = table_of(item, spot)?;
-    let base = integer_at(table, "base", BASE, spot.at_row(36))?;
-    let size = integer_at(table, "size", SIZE, spot.at_row(37))?;
-    let (write, exec) = read_access(table, spot.at_row(38))?;
+    let base = integer_at(table, "base", BASE, spot.at_row(row::REGION_BASE))?;
+    let size = integer_at(table, "size", SIZE, spot.at_row(row::REGION_SIZE))?;
+    let (write, exec) = read_access(table, spot.at_row(row::REGION_ACCESS))?;
     only_known(table, &["base", "size", "access"], spot)?;
     Ok(MapRegion {
         range: ByteRange { base, size },
@@ -62,7 +64,7 @@ pub(crate) fn read_regions(
     let items = items_of(item, 1, 16, spot)?;
     let mut regions = ArrayVec::new();
     for (j, item) in items.iter().enumerate() {
-        regions.push(read_region(item, spot.in_j(35, j as u8))?);
+        regions.push(read_region(item, spot.in_j(row::REGION, j as u8))?);
     }
     Ok(regions)
 }

@@ -12,6 +12,7 @@ use crate::bounds::{BASE, EVENTS, SIZE};
 use crate::config::Shmem;
 use crate::error::{ConfigError, Spot};
 use crate::fields::{find, integer_at, items_of, only_known, table_of};
+use crate::row;
 use arrayvec::ArrayVec;
 use bao_types::ByteRange;
 use toml::{Table, Value};
@@ -23,9 +24,9 @@ fn read_shmem(item: &Value, spot: Spot) -> Result<Shmem, ConfigError>
         (shmem_of (keys_of (Some (view item.now)))) }
 {
     let table = table_of(item, spot)?;
-    let base = integer_at(table, "base", BASE, spot.at_row(22))?;
-    let size = integer_at(table, "size", SIZE, spot.at_row(23))?;
-    let events = integer_at(table, "events", EVENTS, spot.at_row(24))?;
+    let base = integer_at(table, "base", BASE, spot.at_row(row::SHMEM_BASE))?;
+    let size = integer_at(table, "size", SIZE, spot.at_row(row::SHMEM_SIZE))?;
+    let events = integer_at(table, "events", EVENTS, spot.at_row(row::SHMEM_EVENTS))?;
     only_known(table, &["base", "size", "events"], spot)?;
     Ok(Shmem {
         range: ByteRange { base, size },
@@ -45,7 +46,7 @@ pub(crate) fn read_shmems(table: &Table, spot: Spot) -> Result<ArrayVec<Shmem, 8
     };
     let items = items_of(item, 0, 8, spot)?;
     for (i, item) in items.iter().enumerate() {
-        shmems.push(read_shmem(item, spot.in_i(21, i as u8))?);
+        shmems.push(read_shmem(item, spot.in_i(row::SHMEM, i as u8))?);
     }
     Ok(shmems)
 }
