@@ -24,8 +24,3 @@ pub use config::{Config, Dev, Ipc, MapRegion, Platform, PortPlace, Shmem, Vm};
 pub use document::read_config;
 pub use error::{ConfigError, PATH_LIMIT, Spot};
 pub use names::{is_file_name, is_name};
-
-#[cfg(test)]
-mod fault_tests;
-#[cfg(test)]
-mod tests;
