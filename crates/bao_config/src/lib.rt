@@ -12,6 +12,7 @@ mod document;
 mod error;
 mod fields;
 mod ipc;
+mod items;
 mod names;
 mod platform;
 mod range;

@@ -2,8 +2,9 @@
 ghost use Rattle.std.specs.Prelude.{Some, codes};
 ghost use Rattle.toml.specs.Data.{get_member};
 ghost use Rattle.toml.specs.View.{view, table_view};
-ghost use Rattle.bao_config.specs.Faults.{faults, text, or_shape};
+ghost use Rattle.bao_config.specs.Faults.{faults, text, or_shape, in_j, at_row};
 ghost use Rattle.bao_config.specs.Texts.{is_region_access};
+ghost use Rattle.bao_config.specs.Row as rows;
 ghost use Rattle.bao_config.specs.KeyTable.{region, regions};
 ghost use Rattle.bao_config.specs.Spelled.{region_of, tables_of, keys_of, rights_of, text_of};
 ghost use Rattle.bao_config.specs.Fits.{ListFits, RegionFits};
@@ -12,7 +13,8 @@ ghost use Rattle.bao_config.specs.Answer.{Reads};
 use crate::bounds::{BASE, SIZE};
 use crate::config::MapRegion;
 use crate::error::{ConfigError, Spot};
-use crate::fields::{integer_at, items_of, only_known, required, str_at, table_of};
+use crate::fields::{integer_at, only_known, required, str_at, table_of};
+use crate::items::{Items, read_items};
 use crate::row;
 use arrayvec::ArrayVec;
 use bao_types::ByteRange;
@@ -51,7 +53,30 @@ fn read_region(item: &Value, spot: Spot) -> Result<MapRegion, ConfigError>
     })
 }
 
-#[tactic(auto, unfolding(crate::specs::KeyTable::regions))]
+/// A VM's regions.
+struct Regions;
+
+impl Items for Regions {
+    ghost use Rattle.bao_config.specs.declared.config.MapRegion.{MapRegion};
+
+    type Item = MapRegion;
+
+    ghost Plain = { MapRegion };
+
+    ghost plain = { λ x. x };
+
+    ghost Fits = { RegionFits };
+
+    ghost faults_at = { λ spot n d. faults region (in_j n (at_row rows.region spot)) d };
+
+    ghost record_of = { λ d. region_of (keys_of (Some d)) };
+
+    fn read(item: &Value, spot: Spot, n: u8) -> Result<MapRegion, ConfigError> {
+        read_region(item, spot.in_j(row::REGION, n))
+    }
+}
+
+#[tactic(auto, using(crate::proofs::Lists::map_same), unfolding(crate::specs::KeyTable::regions))]
 pub(crate) fn read_regions(
     table: &Table,
     spot: Spot,
@@ -60,11 +85,5 @@ pub(crate) fn read_regions(
         (or_shape spot (get_member (codes "regions") (table_view table.now)) (faults regions spot))
         (tables_of region_of (get_member (codes "regions") (table_view table.now))) }
 {
-    let item = required(table, "regions", spot)?;
-    let items = items_of(item, 1, 16, spot)?;
-    let mut regions = ArrayVec::new();
-    for (j, item) in items.iter().enumerate() {
-        regions.push(read_region(item, spot.in_j(row::REGION, j as u8))?);
-    }
-    Ok(regions)
+    read_items::<Regions, 16>(required(table, "regions", spot)?, 1, spot)
 }
