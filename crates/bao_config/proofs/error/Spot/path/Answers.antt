@@ -1,7 +1,6 @@
-use Rattle.std.proofs.Common.{rules, arith, length, get_or, length-append, drop, ap, sym, refl, ◌++◌, ◌≤◌, ◌+◌, ◌∙◌}
+use Rattle.std.proofs.Common.{rules, arith, length, get_or, length-append, ap, sym, refl, ◌∙◌}
 use Rattle.std.proofs.lemmas.List.{drop_all, append-nil}
-use Rattle.std.specs.List.{flat_map}
-use Rattle.bao_config.specs.Path.{pattern_of, filled, path_of}
+use Rattle.bao_config.specs.Path.{path_of}
 use Rattle.bao_config.proofs.Paths.{one_more, length-path, HasBytePlaces}
 use Rattle.bao_config.proofs.error.Spot.path.Goals as goal
 
