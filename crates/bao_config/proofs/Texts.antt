@@ -9,7 +9,7 @@ use Rattle.toml.specs.Data.{Data, as_str}
 use Rattle.bao_config.specs.declared.error.Spot.{Spot}
 use Rattle.bao_config.specs.declared.error.ConfigError.TheVariants.{BadShape}
 use Rattle.bao_config.specs.Faults.{text, faults, or_shape, first, is_one_of}
-use Rattle.bao_config.specs.KeyTable.{is_region_access, is_window_access}
+use Rattle.bao_config.specs.Texts.{is_region_access, is_window_access}
 
 pub bytes_eq-different : (s t : List ℕ) → (s ≡ t → ⊥) → bytes_eq s t ≡ false
 bytes_eq-different s t different =

@@ -1,5 +1,7 @@
 -- The bounds of the integers of a configuration, which `docs/configuration.md` lists too.
-use Rattle.std.specs.Prelude.{◌≡◌, ℕ, ℤ, pos, negsuc, ◌≤◌, ◌%◌, ◌==◌, Bool, false, ◌&&◌, nat_le}
+use Rattle.std.specs.Prelude.{◌≡◌, ℕ, ℤ, pos, negsuc, ◌≤◌, ◌-◌, ◌%◌, ◌==◌, Bool, false, ◌&&◌, nat_le}
+use Rattle.bao_types.specs.ByteRange.{address_space_end}
+use Rattle.bao_types.specs.Shape.{port_size}
 use Rattle.bao_config.specs.declared.bounds.Bounds.{Bounds}
 
 -- the number is within the bounds, both included, and a multiple of the stated one
@@ -13,28 +15,44 @@ abbrev pub is_in_bounds : Bounds → ℤ → Bool
 is_in_bounds bounds (pos n) = nat_le bounds.least n && nat_le n bounds.most && (n % bounds.multiple == 0)
 is_in_bounds bounds (negsuc n) = false
 
+-- ranges of memory begin at a multiple of this many bytes, and their size is one
+abbrev pub granule : ℕ
+granule = 64
+
+-- the bytes of a frame of the interrupt controller
+abbrev pub frame_size : ℕ
+frame_size = 0x10000
+
+-- the bytes of an instruction
+abbrev pub instruction_size : ℕ
+instruction_size = 4
+
 abbrev pub version : Bounds
 version = record { least = 1; most = 1; multiple = 1 }
 
--- the first address of a range: up to 2^48 - 64
+-- the first address of a range
 abbrev pub base : Bounds
-base = record { least = 0; most = 0xffffffffffc0; multiple = 64 }
+base = record { least = 0; most = address_space_end - granule; multiple = granule }
 
--- the number of bytes of a range: up to 2^48
+-- the number of bytes of a range
 abbrev pub size : Bounds
-size = record { least = 64; most = 0x1000000000000; multiple = 64 }
+size = record { least = granule; most = address_space_end; multiple = granule }
 
 -- the number of EL2 protection regions of a core
 abbrev pub entries : Bounds
 entries = record { least = 1; most = 32; multiple = 1 }
 
--- the address of a frame of the interrupt controller: up to 2^48 - 0x10000
+-- the address of a frame of the interrupt controller
 abbrev pub frame : Bounds
-frame = record { least = 0x10000; most = 0xffffffff0000; multiple = 0x10000 }
+frame = record { least = frame_size; most = address_space_end - frame_size; multiple = frame_size }
 
 -- a place in the standard list of ports
 abbrev pub port_id : Bounds
 port_id = record { least = 0; most = 15; multiple = 1 }
+
+-- the address of a port
+abbrev pub port_base : Bounds
+port_base = record { least = 0; most = address_space_end - port_size; multiple = port_size }
 
 -- an interrupt number that is shared by all cores
 abbrev pub interrupt : Bounds
@@ -44,9 +62,9 @@ interrupt = record { least = 32; most = 95; multiple = 1 }
 abbrev pub events : Bounds
 events = record { least = 1; most = 8; multiple = 1 }
 
--- the address of an instruction: up to 2^48 - 4
+-- the address of an instruction
 abbrev pub instruction : Bounds
-instruction = record { least = 0; most = 0xfffffffffffc; multiple = 4 }
+instruction = record { least = 0; most = address_space_end - instruction_size; multiple = instruction_size }
 
 -- a place in the list of cores
 abbrev pub core : Bounds

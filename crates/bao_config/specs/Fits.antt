@@ -5,8 +5,8 @@ use Rattle.bao_config.specs.declared.config.PortPlace.{PortPlace}
 use Rattle.bao_config.specs.declared.config.Shmem.{Shmem}
 use Rattle.bao_config.specs.declared.config.MapRegion.{MapRegion}
 use Rattle.bao_config.specs.declared.config.Dev.{Dev}
-use Rattle.bao_config.specs.Bounds.{IsInBounds, version, base, size, entries, frame, port_id, interrupt, events, instruction, core, shared}
-use Rattle.bao_config.specs.KeyTable.{is_name, is_file_name}
+use Rattle.bao_config.specs.Bounds.{IsInBounds, version, base, size, entries, frame, port_id, port_base, interrupt, events, instruction, core, shared}
+use Rattle.bao_config.specs.Texts.{is_name, is_file_name}
 use Rattle.bao_config.specs.Data.{PlatformData, IpcData, VmData, ConfigData}
 
 -- a list of at least and at most so many elements, of which each fits
@@ -21,7 +21,7 @@ pub record RangeFits (range : ByteRange) : Type 0 where
 
 pub record PortFits (port : PortPlace) : Type 0 where
   pub id : IsInBounds port_id port.id
-  pub base : IsInBounds base port.base
+  pub base : IsInBounds port_base port.base
   pub spi : IsInBounds interrupt port.spi
 
 pub record PlatformFits (platform : PlatformData) : Type 0 where

@@ -1,5 +1,7 @@
 pub mod Bounds
 pub mod Faults
+pub mod Texts
+pub mod Row
 pub mod KeyTable
 pub mod Data
 pub mod Fits

@@ -1,7 +1,7 @@
 -- The path of a spot, as `vm[0].regions[2].size`, which a refusal tells.
-use Rattle.std.specs.Prelude.{ℕ, ◌==◌, if◌then◌else◌, List, [], ◌∷◌, slice_get, unwrap_or, codes}
+use Rattle.std.specs.Prelude.{ℕ, Bool, false, ◌==◌, if◌then◌else◌, List, [], ◌∷◌, slice_get, unwrap_or, codes}
 use Rattle.std.specs.List.{flat_map}
-use Rattle.std.specs.Fmt.{decimal}
+use Rattle.std.specs.Fmt.{decimal, digit_glyph}
 use Rattle.bao_config.specs.declared.error.Spot.{Spot}
 
 -- the paths of the rows from row 1 on, with the digits 0, 1 and 2 for the places i, j and k
@@ -65,12 +65,16 @@ patterns =
 abbrev pub pattern_of : ℕ → List ℕ
 pattern_of row = unwrap_or (slice_get ([] ∷ patterns) row) []
 
--- 48, 49 and 50 are the digits 0, 1 and 2
+-- the byte is this digit
+abbrev pub is_digit : ℕ → ℕ → Bool
+is_digit n byte = byte == digit_glyph false n
+
+-- a digit stands for its place, and every other byte for itself
 abbrev pub filled : Spot → ℕ → List ℕ
 filled spot byte =
-    if byte == 48 then decimal spot.i
-    else if byte == 49 then decimal spot.j
-    else if byte == 50 then decimal spot.k
+    if is_digit 0 byte then decimal spot.i
+    else if is_digit 1 byte then decimal spot.j
+    else if is_digit 2 byte then decimal spot.k
     else byte ∷ []
 
 unfoldable pub path_of : Spot → List ℕ

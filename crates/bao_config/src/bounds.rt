@@ -1,4 +1,16 @@
 //! The bounds of the integers of a configuration.
+ghost use Rattle.std.specs.Prelude.{◌≡◌, ◌<◌, pos};
+
+use bao_types::{ADDRESS_SPACE_END, PORT_SIZE};
+
+/// Ranges of memory begin at a multiple of this many bytes, and their size is one.
+pub const GRANULE: u64 = 64;
+
+/// The bytes of a frame of the interrupt controller.
+pub const FRAME_SIZE: u64 = 0x1_0000;
+
+/// The bytes of an instruction.
+pub const INSTRUCTION_SIZE: u64 = 4;
 
 /// Which integers may stand at a row of the key table: those from `least` to `most`, both included, that are
 /// multiples of `multiple`.
@@ -10,78 +22,97 @@ pub struct Bounds {
     pub multiple: u64,
 }
 
+impl Bounds {
+    ghost use Rattle.bao_config.specs.Bounds.{is_in_bounds};
+
+    /// Whether the number is within the bounds, both included, and a multiple of the stated one.
+    pub fn admits(&self, n: u64) -> bool
+        requires { 0 < self.now.multiple }
+        ensures { result ≡ is_in_bounds self.now (pos n) }
+    {
+        self.least <= n && n <= self.most && n % self.multiple == 0
+    }
+}
+
 /// The versions of the key table that there are.
-pub(crate) const VERSION: Bounds = Bounds {
+pub const VERSION: Bounds = Bounds {
     least: 1,
     most: 1,
     multiple: 1,
 };
 
 /// The first address of a range.
-pub(crate) const BASE: Bounds = Bounds {
+pub const BASE: Bounds = Bounds {
     least: 0,
-    most: 0xffff_ffff_ffc0,
-    multiple: 64,
+    most: ADDRESS_SPACE_END - GRANULE,
+    multiple: GRANULE,
 };
 
 /// The number of bytes of a range.
-pub(crate) const SIZE: Bounds = Bounds {
-    least: 64,
-    most: 0x1_0000_0000_0000,
-    multiple: 64,
+pub const SIZE: Bounds = Bounds {
+    least: GRANULE,
+    most: ADDRESS_SPACE_END,
+    multiple: GRANULE,
 };
 
 /// The number of EL2 protection regions of a core.
-pub(crate) const ENTRIES: Bounds = Bounds {
+pub const ENTRIES: Bounds = Bounds {
     least: 1,
     most: 32,
     multiple: 1,
 };
 
 /// The address of a frame of the interrupt controller.
-pub(crate) const FRAME: Bounds = Bounds {
-    least: 0x1_0000,
-    most: 0xffff_ffff_0000,
-    multiple: 0x1_0000,
+pub const FRAME: Bounds = Bounds {
+    least: FRAME_SIZE,
+    most: ADDRESS_SPACE_END - FRAME_SIZE,
+    multiple: FRAME_SIZE,
 };
 
 /// A place in the standard list of ports.
-pub(crate) const PORT_ID: Bounds = Bounds {
+pub const PORT_ID: Bounds = Bounds {
     least: 0,
     most: 15,
     multiple: 1,
 };
 
+/// The address of a port.
+pub const PORT_BASE: Bounds = Bounds {
+    least: 0,
+    most: ADDRESS_SPACE_END - PORT_SIZE,
+    multiple: PORT_SIZE,
+};
+
 /// An interrupt number that is shared by all cores.
-pub(crate) const INTERRUPT: Bounds = Bounds {
+pub const INTERRUPT: Bounds = Bounds {
     least: 32,
     most: 95,
     multiple: 1,
 };
 
 /// How many events a shared memory has.
-pub(crate) const EVENTS: Bounds = Bounds {
+pub const EVENTS: Bounds = Bounds {
     least: 1,
     most: 8,
     multiple: 1,
 };
 
 /// The address of an instruction.
-pub(crate) const INSTRUCTION: Bounds = Bounds {
+pub const INSTRUCTION: Bounds = Bounds {
     least: 0,
-    most: 0xffff_ffff_fffc,
-    multiple: 4,
+    most: ADDRESS_SPACE_END - INSTRUCTION_SIZE,
+    multiple: INSTRUCTION_SIZE,
 };
 
 /// A place in the list of cores.
-pub(crate) const CORE: Bounds = Bounds {
+pub const CORE: Bounds = Bounds {
     least: 0,
     most: 7,
     multiple: 1,
 };
 
 /// A place in the list of shared memories.
-pub(crate) const SHARED: Bounds = Bounds {
+pub const SHARED: Bounds = Bounds {
     least: 0,
     most: 7,
     multiple: 1,

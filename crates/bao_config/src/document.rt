@@ -20,11 +20,13 @@ use toml::Table;
 
 /// The document itself.
 const DOCUMENT: Spot = Spot {
-    row: 1,
+    row: row::DOCUMENT,
     i: 0,
     j: 0,
     k: 0,
 };
+
+use crate::row;
 
 #[tactic(auto, using(crate::proofs::Lists::is_first_append), unfolding(crate::specs::KeyTable::document))]
 fn read_document(alloc: Global, table: &Table) -> Result<Config, ConfigError>
@@ -32,19 +34,19 @@ fn read_document(alloc: Global, table: &Table) -> Result<Config, ConfigError>
         (document_faults (table_view table.now))
         (config_of (table_view table.now)) }
 {
-    let version = integer_at(table, "version", VERSION, DOCUMENT.at_row(2))?;
+    let version = integer_at(table, "version", VERSION, DOCUMENT.at_row(row::VERSION))?;
     let platform = read_platform(
-        required(table, "platform", DOCUMENT.at_row(3))?,
-        DOCUMENT.at_row(3),
+        required(table, "platform", DOCUMENT.at_row(row::PLATFORM))?,
+        DOCUMENT.at_row(row::PLATFORM),
     )?;
     let hyp = read_range(
-        required(table, "hypervisor", DOCUMENT.at_row(17))?,
-        18,
-        19,
-        DOCUMENT.at_row(17),
+        required(table, "hypervisor", DOCUMENT.at_row(row::HYPERVISOR))?,
+        row::HYPERVISOR_BASE,
+        row::HYPERVISOR_SIZE,
+        DOCUMENT.at_row(row::HYPERVISOR),
     )?;
-    let shmems = read_shmems(table, DOCUMENT.at_row(20))?;
-    let vms = read_vms(alloc, table, DOCUMENT.at_row(25))?;
+    let shmems = read_shmems(table, DOCUMENT.at_row(row::SHMEMS))?;
+    let vms = read_vms(alloc, table, DOCUMENT.at_row(row::VMS))?;
     only_known(
         table,
         &["version", "platform", "hypervisor", "shmem", "vm"],

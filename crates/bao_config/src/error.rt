@@ -1,8 +1,9 @@
-ghost use Rattle.std.specs.Prelude.{◌≡◌, [], map, slice_get, unwrap_or};
+ghost use Rattle.std.specs.Prelude.{◌≡◌, ◌≤◌, ◌+◌, ◌++◌, [], length, map, slice_get, unwrap_or};
+ghost use Rattle.std.specs.Fmt.{decimal};
 ghost use Rattle.bao_config.specs.declared.error.ConfigError.TheVariants.{OutOfMemory};
 
+use arrayvec::ArrayVec;
 use std::alloc::{AllocError, AllocFailed};
-use std::fmt;
 use thiserror::Error;
 
 /// A row of the key table, with the place in each array that leads to it.
@@ -17,6 +18,9 @@ pub struct Spot {
     /// The place in the innermost of three arrays, 0 where there is none.
     pub k: u8,
 }
+
+/// How many bytes a path has at most.
+pub const PATH_LIMIT: usize = 27;
 
 /// The paths of the rows, with the digits 0, 1 and 2 for the places. There is no row 0.
 const PATTERNS: [&str; 53] = [
@@ -82,24 +86,50 @@ pub enum ConfigError {
     #[error("bad toml")]
     BadToml,
     /// A key is missing or unknown, or what stands there is of another kind, length or text than the row asks for.
-    #[error("bad shape {spot}")]
+    #[error("bad shape")]
     BadShape { spot: Spot },
     /// An integer is outside the row's bounds.
-    #[error("bad value {spot} {value}")]
+    #[error("bad value")]
     BadValue { spot: Spot, value: i64 },
     #[error("out of memory")]
     OutOfMemory,
 }
 
 impl Spot {
-    ghost use Rattle.bao_config.specs.Path.{pattern_of};
+    ghost use Rattle.bao_config.specs.Path.{pattern_of, filled, path_of};
+
+    /// The path of the spot, as `vm[0].regions[2].size`, which a refusal tells. A row that isn't in the key table has
+    /// none.
+    pub fn path(self) -> ArrayVec<u8, PATH_LIMIT>
+        ensures { result.items ≡ path_of self }
+    {
+        let mut path = ArrayVec::new();
+        let pattern = self.pattern().as_bytes();
+        for i in 0..pattern.len() {
+            self.push_part(&mut path, pattern[i]);
+        }
+        path
+    }
+
+    /// Appends what stands in the path for a byte of the row's pattern.
+    fn push_part(self, path: &mut ArrayVec<u8, PATH_LIMIT>, byte: u8)
+        requires { length path.old.items + length (filled self byte) ≤ 27 }
+        ensures { path.new.items ≡ path.old.items ++ filled self byte }
+    {
+        match byte {
+            b'0' => push_number(path, self.i),
+            b'1' => push_number(path, self.j),
+            b'2' => push_number(path, self.k),
+            _ => path.push(byte),
+        }
+    }
 
     /// The path of the spot's row, as `vm[0].regions[1].size`, with the digits 0, 1 and 2 where the places `i`,
     /// `j` and `k` stand. A row that isn't in the key table has none.
-    pub fn pattern(&self) -> &'static str
-        ensures { result.now ≡ pattern_of self.now.row }
+    fn pattern(self) -> &'static str
+        ensures { result.now ≡ pattern_of self.row }
     {
-        text_at(&PATTERNS, self.row as usize)
+        text_at(&PATTERNS, usize::from(self.row))
     }
 
     /// The same places at another row.
@@ -131,25 +161,20 @@ impl Spot {
     }
 }
 
+/// Appends a number, without leading zeros.
+fn push_number(path: &mut ArrayVec<u8, PATH_LIMIT>, number: u8)
+    requires { length path.old.items + length (decimal number) ≤ 27 }
+    ensures { path.new.items ≡ path.old.items ++ decimal number }
+{
+    let mut digits = itoa::Buffer::new();
+    let _ = path.try_extend_from_slice(digits.format(number).as_bytes());
+}
+
 /// The text at this place, and the empty one behind the last.
 fn text_at<'a>(texts: &[&'a str], i: usize) -> &'a str
     ensures { result.now ≡ unwrap_or (slice_get (map (λ s. s.now) texts.now) i) [] }
 {
     if i < texts.len() { texts[i] } else { "" }
-}
-
-impl fmt::Display for Spot {
-    fn fmt<W: fmt::Write>(&self, f: &mut fmt::Formatter<W>) -> fmt::Result {
-        for c in self.pattern().chars() {
-            match c {
-                '0' => write!(f, "{}", self.i)?,
-                '1' => write!(f, "{}", self.j)?,
-                '2' => write!(f, "{}", self.k)?,
-                c => f.write_char(c)?,
-            }
-        }
-        Ok(())
-    }
 }
 
 impl From<AllocError> for ConfigError {

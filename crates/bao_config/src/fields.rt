@@ -75,14 +75,10 @@ pub(crate) fn integer_of(item: &Value, bounds: Bounds, spot: Spot) -> Result<u64
     let Some(value) = item.as_integer() else {
         return Err(ConfigError::BadShape { spot });
     };
-    if value < 0 {
-        return Err(ConfigError::BadValue { spot, value });
+    match u64::try_from(value) {
+        Ok(n) if bounds.admits(n) => Ok(n),
+        _ => Err(ConfigError::BadValue { spot, value }),
     }
-    let n = value as u64;
-    if n < bounds.least || bounds.most < n || n % bounds.multiple != 0 {
-        return Err(ConfigError::BadValue { spot, value });
-    }
-    Ok(n)
 }
 
 /// The integer at a key that must be there.
@@ -116,7 +112,7 @@ pub(crate) fn str_at<'a>(table: &'a Table, key: &str, spot: Spot) -> Result<&'a 
     }
 }
 
-fn is_name(names: &[&str], key: &str) -> bool
+fn is_listed(names: &[&str], key: &str) -> bool
     ensures { result ≡ is_one_of (map (λ s. s.now) names.now) key.now }
 {
     names.contains(&key)
@@ -130,7 +126,7 @@ pub(crate) fn only_known(table: &Table, names: &[&str], spot: Spot) -> Result<()
         IsFirst e (unknown_faults (map (λ s. s.now) names.now) spot (table_view table.now))) }
 {
     'members: for (key, _value) in table.iter() {
-        if !is_name(names, key.as_str()) {
+        if !is_listed(names, key.as_str()) {
             return Err(ConfigError::BadShape { spot });
         }
     }

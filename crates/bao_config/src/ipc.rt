@@ -1,21 +1,23 @@
 //! Readers of a VM's windows on shared memory.
-ghost use Rattle.std.specs.Prelude.{Some, codes, map};
+ghost use Rattle.std.specs.Prelude.{ℕ, Some, codes, map};
 ghost use Rattle.toml.specs.Data.{get_member};
 ghost use Rattle.toml.specs.View.{view, table_view};
 ghost use Rattle.bao_config.specs.Bounds.{IsInBounds, interrupt};
-ghost use Rattle.bao_config.specs.Faults.{faults, text, or_shape, or_none};
-ghost use Rattle.bao_config.specs.KeyTable.{irqs, ipc, ipcs, is_window_access};
-ghost use Rattle.bao_config.specs.Spelled.{ipc_of, numbers_of, tables_of, keys_of, may_write, text_of};
-ghost use Rattle.bao_config.specs.Data.{ipc_data};
+ghost use Rattle.bao_config.specs.Faults.{faults, number, text, or_shape, or_none, in_j, in_k, at_row};
+ghost use Rattle.bao_config.specs.Texts.{is_window_access};
+ghost use Rattle.bao_config.specs.Row as rows;
+ghost use Rattle.bao_config.specs.KeyTable.{irqs, ipc, ipcs};
+ghost use Rattle.bao_config.specs.Spelled.{ipc_of, number_of, numbers_of, tables_of, keys_of, may_write, text_of};
+ghost use Rattle.bao_config.specs.Data.{IpcData, ipc_data};
 ghost use Rattle.bao_config.specs.Fits.{ListFits, IpcFits};
 ghost use Rattle.bao_config.specs.Answer.{Reads};
 
 use crate::bounds::{INTERRUPT, SHARED};
 use crate::config::Ipc;
 use crate::error::{ConfigError, Spot};
-use crate::fields::{
-    find, integer_at, integer_of, items_of, only_known, required, str_at, table_of,
-};
+use crate::fields::{find, integer_at, integer_of, only_known, required, str_at, table_of};
+use crate::items::{Items, read_items};
+use crate::row;
 use arrayvec::ArrayVec;
 use toml::{Table, Value};
 
@@ -32,19 +34,34 @@ fn read_access(table: &Table, spot: Spot) -> Result<bool, ConfigError>
     }
 }
 
-#[tactic(auto, unfolding(crate::specs::KeyTable::irqs))]
+/// A window's interrupt numbers.
+struct Irqs;
+
+impl Items for Irqs {
+    type Item = u16;
+
+    ghost Plain = { ℕ };
+
+    ghost plain = { λ x. x };
+
+    ghost Fits = { IsInBounds interrupt };
+
+    ghost faults_at = { λ spot n d. faults (number interrupt) (in_k n (at_row rows.irq spot)) d };
+
+    ghost record_of = { λ d. number_of (Some d) };
+
+    fn read(item: &Value, spot: Spot, n: u8) -> Result<u16, ConfigError> {
+        Ok(integer_of(item, INTERRUPT, spot.in_k(row::IRQ, n))? as u16)
+    }
+}
+
+#[tactic(auto, using(crate::proofs::Lists::map_same), unfolding(crate::specs::KeyTable::irqs))]
 fn read_irqs(table: &Table, spot: Spot) -> Result<ArrayVec<u16, 8>, ConfigError>
     ensures { Reads (λ v. v.items) (ListFits 1 8 (IsInBounds interrupt)) result
         (or_shape spot (get_member (codes "irqs") (table_view table.now)) (faults irqs spot))
         (numbers_of (get_member (codes "irqs") (table_view table.now))) }
 {
-    let item = required(table, "irqs", spot)?;
-    let items = items_of(item, 1, 8, spot)?;
-    let mut irqs = ArrayVec::new();
-    for (k, item) in items.iter().enumerate() {
-        irqs.push(integer_of(item, INTERRUPT, spot.in_k(48, k as u8))? as u16);
-    }
-    Ok(irqs)
+    read_items::<Irqs, 8>(required(table, "irqs", spot)?, 1, spot)
 }
 
 #[tactic(auto, using(crate::proofs::Lists::is_first_append), unfolding(crate::specs::KeyTable::ipc))]
@@ -54,9 +71,9 @@ fn read_ipc(item: &Value, spot: Spot) -> Result<Ipc, ConfigError>
         (ipc_of (keys_of (Some (view item.now)))) }
 {
     let table = table_of(item, spot)?;
-    let shmem = integer_at(table, "shmem", SHARED, spot.at_row(45))?;
-    let write = read_access(table, spot.at_row(46))?;
-    let irqs = read_irqs(table, spot.at_row(47))?;
+    let shmem = integer_at(table, "shmem", SHARED, spot.at_row(row::IPC_SHMEM))?;
+    let write = read_access(table, spot.at_row(row::IPC_ACCESS))?;
+    let irqs = read_irqs(table, spot.at_row(row::IRQS))?;
     only_known(table, &["shmem", "access", "irqs"], spot)?;
     Ok(Ipc {
         shmem: shmem as u8,
@@ -65,19 +82,35 @@ fn read_ipc(item: &Value, spot: Spot) -> Result<Ipc, ConfigError>
     })
 }
 
+/// A VM's windows.
+struct Ipcs;
+
+impl Items for Ipcs {
+    type Item = Ipc;
+
+    ghost Plain = { IpcData };
+
+    ghost plain = { ipc_data };
+
+    ghost Fits = { IpcFits };
+
+    ghost faults_at = { λ spot n d. faults ipc (in_j n (at_row rows.ipc spot)) d };
+
+    ghost record_of = { λ d. ipc_of (keys_of (Some d)) };
+
+    fn read(item: &Value, spot: Spot, n: u8) -> Result<Ipc, ConfigError> {
+        read_ipc(item, spot.in_j(row::IPC, n))
+    }
+}
+
 #[tactic(auto, unfolding(crate::specs::KeyTable::ipcs))]
 pub(crate) fn read_ipcs(table: &Table, spot: Spot) -> Result<ArrayVec<Ipc, 8>, ConfigError>
     ensures { Reads (λ v. map ipc_data v.items) (ListFits 0 8 IpcFits) result
         (or_none (get_member (codes "ipcs") (table_view table.now)) (faults ipcs spot))
         (tables_of ipc_of (get_member (codes "ipcs") (table_view table.now))) }
 {
-    let mut ipcs = ArrayVec::new();
-    let Some(item) = find(table, "ipcs") else {
-        return Ok(ipcs);
-    };
-    let items = items_of(item, 0, 8, spot)?;
-    for (j, item) in items.iter().enumerate() {
-        ipcs.push(read_ipc(item, spot.in_j(44, j as u8))?);
+    match find(table, "ipcs") {
+        Some(item) => read_items::<Ipcs, 8>(item, 0, spot),
+        None => Ok(ArrayVec::new()),
     }
-    Ok(ipcs)
 }

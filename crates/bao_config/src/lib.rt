@@ -5,24 +5,23 @@
 //! memory, is judged by a crate above.
 #![tactic(auto)]
 
-mod bounds;
+pub mod bounds;
 mod config;
 mod dev;
 mod document;
 mod error;
 mod fields;
 mod ipc;
+mod items;
+mod names;
 mod platform;
 mod range;
 mod region;
+pub mod row;
 mod shmem;
 mod vm;
 
 pub use config::{Config, Dev, Ipc, MapRegion, Platform, PortPlace, Shmem, Vm};
 pub use document::read_config;
-pub use error::{ConfigError, Spot};
-
-#[cfg(test)]
-mod fault_tests;
-#[cfg(test)]
-mod tests;
+pub use error::{ConfigError, PATH_LIMIT, Spot};
+pub use names::{is_file_name, is_name};

@@ -52,7 +52,7 @@ impl Lines {
         requires { core < 8 }
         ensures { self.new ≡ with_ppi self.old core }
     {
-        self.ppis[core as usize] = true;
+        self.ppis[usize::from(core)] = true;
     }
 
     /// Raises the SPI of a port, for the cores of the VM that owns it. An SPI that no port has changes nothing.
@@ -80,7 +80,7 @@ impl Lines {
     {
         let intid = self.least_raised(core)?;
         if intid == TIMER_PPI {
-            self.ppis[core as usize] = false;
+            self.ppis[usize::from(core)] = false;
         }
         acknowledge(self.ports.as_mut_slice(), core, intid);
         Some(intid)
@@ -91,7 +91,7 @@ impl Lines {
         requires { core < 8 }
         ensures { result ≡ least_raised self.now core }
     {
-        let mut least = if self.ppis[core as usize] {
+        let mut least = if self.ppis[usize::from(core)] {
             Some(TIMER_PPI)
         } else {
             None

@@ -29,68 +29,99 @@ fn lines() -> Lines {
     Lines::new(&ArrayVec::from_array_in((), spots))
 }
 
-fn check(rt: &impl Abort, holds: bool, shows: &str) {
-    assert!(rt; holds, "{shows}");
+/// A call, with what it is to answer.
+enum Call {
+    /// The port's interrupt number.
+    Spi(u16),
+    /// The core.
+    Ppi(u8),
+    /// The core, and whether a line is raised for it.
+    Raised(u8, bool),
+    /// The core, and the interrupt that it takes.
+    Ack(u8, Option<u16>),
 }
+
+use Call::{Ack, Ppi, Raised, Spi};
+
+/// Whether the call answers as it is to.
+fn is_met(lines: &mut Lines, call: &Call) -> bool {
+    match *call {
+        Spi(spi) => lines.raise_spi(spi),
+        Ppi(core) if core < 8 => lines.raise_ppi(core),
+        Raised(core, wanted) => return core < 8 && lines.raised(core) == wanted,
+        Ack(core, wanted) => return core < 8 && lines.ack(core) == wanted,
+        Ppi(_) => return false,
+    }
+    true
+}
+
+fn check(rt: &impl Abort, lines: &mut Lines, row: &(&str, Call)) {
+    let (shows, call) = row;
+    assert!(rt; is_met(lines, call), "{shows}");
+}
+
+#[rattlefmt::skip]
+static IN_ORDER: [(&str, Call); 16] = [
+    // shows                                    call
+    ("no line at first",                        Raised(0, false)),
+    ("none to take",                            Ack(0, None)),
+    ("port 0",                                  Spi(40)),
+    ("port 1",                                  Spi(33)),
+    ("port 1 again, before it is taken",        Spi(33)),
+    ("the timer",                               Ppi(0)),
+    ("for core 0",                              Raised(0, true)),
+    ("for core 0 alone",                        Raised(1, false)),
+    ("the least first",                         Ack(0, Some(27))),
+    ("then the next",                           Ack(0, Some(33))),
+    ("each once",                               Ack(0, Some(40))),
+    ("no more",                                 Ack(0, None)),
+    ("none is left",                            Raised(0, false)),
+    ("port 1 once more",                        Spi(33)),
+    ("it is taken again",                       Ack(0, Some(33))),
+    ("and only once",                           Ack(0, None)),
+];
 
 #[test]
 fn acknowledged_in_order(rt: HostRuntime) {
     let mut lines = lines();
-    check(&rt, !lines.raised(0) && lines.ack(0).is_none(), "at first");
-    // A port's line is raised once, however often its SPI is raised before an acknowledgement.
-    lines.raise_spi(40);
-    lines.raise_spi(33);
-    lines.raise_spi(33);
-    lines.raise_ppi(0);
-    check(&rt, lines.raised(0) && !lines.raised(1), "for core 0 alone");
-    let acknowledged = [lines.ack(0), lines.ack(0), lines.ack(0), lines.ack(0)];
-    let wanted = [Some(27), Some(33), Some(40), None];
-    check(&rt, acknowledged == wanted, "the least first, each once");
-    check(&rt, !lines.raised(0), "none is left");
-    lines.raise_spi(33);
-    check(&rt, lines.ack(0) == Some(33), "raised again");
+    for row in IN_ORDER.as_slice() {
+        check(&rt, &mut lines, row);
+    }
 }
+
+#[rattlefmt::skip]
+static BY_CORE: [(&str, Call); 24] = [
+    // shows                                    call
+    ("the timer of core 7",                     Ppi(7)),
+    ("the timer of core 2",                     Ppi(2)),
+    ("core 7 has its own",                      Raised(7, true)),
+    ("core 2 has its own",                      Raised(2, true)),
+    ("core 1 has none",                         Raised(1, false)),
+    ("that of core 7",                          Ack(7, Some(27))),
+    ("core 7 has none left",                    Raised(7, false)),
+    ("that of core 2 stays",                    Raised(2, true)),
+    ("port 3",                                  Spi(94)),
+    ("port 2",                                  Spi(32)),
+    ("a core of its VM sees it",                Raised(1, true)),
+    ("a core of another VM doesn't",            Raised(0, false)),
+    ("nor takes it",                            Ack(0, None)),
+    ("one line for all cores of the VM",        Ack(1, Some(32))),
+    ("the core's own timer comes first",        Ack(2, Some(27))),
+    ("the other port's line",                   Ack(2, Some(94))),
+    ("none is left for core 1",                 Raised(1, false)),
+    ("none is left for core 2",                 Raised(2, false)),
+    ("a port of no VM",                         Spi(95)),
+    ("none for core 0",                         Raised(0, false)),
+    ("none for core 1",                         Raised(1, false)),
+    ("none to take for core 2",                 Ack(2, None)),
+    ("none for core 3",                         Raised(3, false)),
+    ("none to take for core 7",                 Ack(7, None)),
+];
 
 #[test]
 fn lines_by_core(rt: HostRuntime) {
     let mut lines = lines();
-    lines.raise_ppi(7);
-    lines.raise_ppi(2);
-    let raised = [lines.raised(7), lines.raised(2), lines.raised(1)];
-    check(
-        &rt,
-        raised == [true, true, false],
-        "each core has a PPI of its own",
-    );
-    check(&rt, lines.ack(7) == Some(27), "that of core 7");
-    check(
-        &rt,
-        !lines.raised(7) && lines.raised(2),
-        "that of core 2 stays",
-    );
-
-    lines.raise_spi(94);
-    lines.raise_spi(32);
-    check(
-        &rt,
-        lines.raised(1) && !lines.raised(0) && lines.ack(0).is_none(),
-        "no core of another VM sees a port's line",
-    );
-    let acknowledged = [lines.ack(1), lines.ack(2), lines.ack(2)];
-    let wanted = [Some(32), Some(27), Some(94)];
-    check(
-        &rt,
-        acknowledged == wanted,
-        "a port's line is one for all cores of its VM",
-    );
-    check(&rt, !lines.raised(1) && !lines.raised(2), "none is left");
-
-    lines.raise_spi(95);
-    for core in 0..8 {
-        check(
-            &rt,
-            !lines.raised(core) && lines.ack(core).is_none(),
-            "the line of a port of no VM is raised for no core",
-        );
+    for row in BY_CORE.as_slice() {
+        check(&rt, &mut lines, row);
     }
 }

@@ -5,5 +5,5 @@ ghost use Rattle.outside.specs.Faults.{is_listed};
 pub fn is_listed(failing: &[u32], call: u64) -> bool
     ensures { result ≡ is_listed failing.now call }
 {
-    failing.iter().any(|&listed| listed as u64 == call)
+    failing.iter().any(|&listed| u64::from(listed) == call)
 }

@@ -96,8 +96,8 @@ impl Phys {
         // So no sum of places wraps.
         prove!(at <= self.len());
         let mut value = 0;
-        for k in (0..width as u64).rev() {
-            value = value * 256 + self.get(at + k) as u64;
+        for k in (0..u64::from(width)).rev() {
+            value = value * 256 + u64::from(self.get(at + k));
         }
         value
     }
@@ -110,7 +110,7 @@ impl Phys {
     {
         prove!(at <= self.len());
         let mut rest = value;
-        for k in 0..width as u64 {
+        for k in 0..u64::from(width) {
             self.set(at + k, (rest % 256) as u8);
             rest /= 256;
         }

@@ -1,5 +1,5 @@
 use Rattle.bao_config.proofs.Texts.{is_region_access-other, text_refused}
-use Rattle.bao_config.specs.KeyTable.{is_region_access}
+use Rattle.bao_config.specs.Texts.{is_region_access}
 use Rattle.bao_config.proofs.region.read_access.Goals as goal
 
 pub returns-in_default : goal.returns-in_default
