@@ -3,3 +3,13 @@
 //! A map says of each byte of the address space what it is to a VM: memory of its own, a port, a window on shared memory, or
 //! nothing. It is asked byte by byte here; the packing of a core's protection regions goes over ranges, in a crate above.
 #![tactic(auto)]
+
+mod claim;
+mod ill;
+mod map;
+mod piece;
+mod sample;
+
+pub use ill::{Ill, NO_RANGE, NONE};
+pub use map::{Kind, MapEntry};
+pub use sample::rows_of_the_sample;
