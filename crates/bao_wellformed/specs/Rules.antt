@@ -114,10 +114,13 @@ rule_9 cfg =
     (filter (λ (one, other). pointwise ◌==◌ one.1.name other.1.name) (pairs (indexed cfg.vms)))
 
 -- 10: each core of a VM is one of the platform
-abbrev pub rule_10 : ConfigData → List Ill
-rule_10 cfg = in_each_vm (λ v vm.
+abbrev pub foreign_cores : ConfigData → ℕ → VmData → List Ill
+foreign_cores cfg v vm =
     map (λ (j, core). record (broken 10) { vm = v; item = j })
-    (filter (λ (j, core). nat_le (length cfg.platform.cores) core) (indexed vm.cores))) cfg
+    (filter (λ (j, core). nat_le (length cfg.platform.cores) core) (indexed vm.cores))
+
+abbrev pub rule_10 : ConfigData → List Ill
+rule_10 cfg = in_each_vm (foreign_cores cfg) cfg
 
 -- what the VMs claim: the numbers of each of them, in order, with VM and place
 abbrev pub claims : (VmData → List ℕ) → ConfigData → List Claim
@@ -154,35 +157,47 @@ abbrev pub rule_11 : ConfigData → List Ill
 rule_11 cfg = claimed_twice 11 are_one (claims (λ vm. vm.cores) cfg)
 
 -- 12: each region lies in one bank
-abbrev pub rule_12 : ConfigData → List Ill
-rule_12 cfg = in_each_vm (λ v vm.
+abbrev pub regions_outside : ConfigData → ℕ → VmData → List Ill
+regions_outside cfg v vm =
     map (λ (j, region). record (broken 12) { vm = v; item = j; first = region.range })
-    (filter (λ (j, region). not (lies_in_a_bank cfg region.range)) (indexed vm.regions))) cfg
+    (filter (λ (j, region). not (lies_in_a_bank cfg region.range)) (indexed vm.regions))
+
+abbrev pub rule_12 : ConfigData → List Ill
+rule_12 cfg = in_each_vm (regions_outside cfg) cfg
 
 -- 13: no region overlaps the hypervisor's range
-abbrev pub rule_13 : ConfigData → List Ill
-rule_13 cfg = in_each_vm (λ v vm.
+abbrev pub regions_of_the_hypervisor : ConfigData → ℕ → VmData → List Ill
+regions_of_the_hypervisor cfg v vm =
     map (λ (j, region). record (broken 13) { vm = v; item = j; first = region.range; second = cfg.hyp })
-    (filter (λ (j, region). overlaps region.range cfg.hyp) (indexed vm.regions))) cfg
+    (filter (λ (j, region). overlaps region.range cfg.hyp) (indexed vm.regions))
+
+abbrev pub rule_13 : ConfigData → List Ill
+rule_13 cfg = in_each_vm (regions_of_the_hypervisor cfg) cfg
 
 -- 14: each dev names a port of the platform
 abbrev pub names_a_port : ConfigData → Dev → Bool
 names_a_port cfg dev = list_any (λ port. port.id == dev.port) cfg.platform.ports
 
-abbrev pub rule_14 : ConfigData → List Ill
-rule_14 cfg = in_each_vm (λ v vm.
+abbrev pub devs_without_port : ConfigData → ℕ → VmData → List Ill
+devs_without_port cfg v vm =
     map (λ (j, dev). record (broken 14) { vm = v; item = j })
-    (filter (λ (j, dev). not (names_a_port cfg dev)) (indexed vm.devs))) cfg
+    (filter (λ (j, dev). not (names_a_port cfg dev)) (indexed vm.devs))
+
+abbrev pub rule_14 : ConfigData → List Ill
+rule_14 cfg = in_each_vm (devs_without_port cfg) cfg
 
 -- 15: no port is claimed twice
 abbrev pub rule_15 : ConfigData → List Ill
 rule_15 cfg = claimed_twice 15 are_one (claims ports_of cfg)
 
 -- 16: each ipc names a shared memory
-abbrev pub rule_16 : ConfigData → List Ill
-rule_16 cfg = in_each_vm (λ v vm.
+abbrev pub ipcs_without_shmem : ConfigData → ℕ → VmData → List Ill
+ipcs_without_shmem cfg v vm =
     map (λ (j, ipc). record (broken 16) { vm = v; item = j })
-    (filter (λ (j, ipc). nat_le (length cfg.shmems) ipc.shmem) (indexed vm.ipcs))) cfg
+    (filter (λ (j, ipc). nat_le (length cfg.shmems) ipc.shmem) (indexed vm.ipcs))
+
+abbrev pub rule_16 : ConfigData → List Ill
+rule_16 cfg = in_each_vm (ipcs_without_shmem cfg) cfg
 
 -- 17: no VM has two windows on one shared memory
 abbrev pub rule_17 : ConfigData → List Ill
@@ -194,10 +209,13 @@ lacks_irqs None ipc = false
 lacks_irqs (Some shmem) ipc = not (length ipc.irqs == shmem.events)
 
 -- 18: an ipc has one interrupt number for each event
-abbrev pub rule_18 : ConfigData → List Ill
-rule_18 cfg = in_each_vm (λ v vm.
+abbrev pub ipcs_without_irqs : ConfigData → ℕ → VmData → List Ill
+ipcs_without_irqs cfg v vm =
     map (λ (j, ipc). record (broken 18) { vm = v; item = j })
-    (filter (λ (j, ipc). lacks_irqs (slice_get cfg.shmems ipc.shmem) ipc) (indexed vm.ipcs))) cfg
+    (filter (λ (j, ipc). lacks_irqs (slice_get cfg.shmems ipc.shmem) ipc) (indexed vm.ipcs))
+
+abbrev pub rule_18 : ConfigData → List Ill
+rule_18 cfg = in_each_vm (ipcs_without_irqs cfg) cfg
 
 -- 19: no interrupt number stands twice in a VM; the item is its place among all of the VM
 abbrev pub rule_19 : ConfigData → List Ill

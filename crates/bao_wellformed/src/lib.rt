@@ -7,8 +7,12 @@
 mod claim;
 mod ill;
 mod map;
+mod pair_rules;
 mod piece;
+mod platform_rules;
+mod ranges;
 mod sample;
+mod vm_rules;
 
 pub use ill::{Ill, NO_RANGE, NONE};
 pub use map::{Kind, MapEntry};

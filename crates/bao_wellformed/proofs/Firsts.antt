@@ -1,0 +1,74 @@
+-- The first break of a list that is gone through in order.
+use Rattle.std.proofs.Common.{◌≡◌, ℕ, ◌+◌, ◌<◌, Bool, true, false, List, [], ◌∷◌, ◌++◌, map, filter, length, get_or, drop, Option, None, Some, is_some, refl, sym, ap, ◌∙◌, add-one}
+use Rattle.std.specs.List.{enumerate_from, flat_map}
+use Rattle.std.proofs.lemmas.List.{drop_more, map-append}
+use Rattle.std.proofs.lemmas.List.Elements.{filter-append}
+use Rattle.bao_wellformed.specs.declared.ill.Ill.{Ill}
+use Rattle.bao_wellformed.specs.Break.{first, pairs}
+
+-- where the front of a list has a first element, it is the whole list's
+pub first_in_front : {A : Type 0} (xs ys : List A) → is_some (first xs) ≡ true → first (xs ++ ys) ≡ first xs
+first_in_front [] ys h = cc
+first_in_front (x ∷ xs) ys h = refl
+
+pub first_behind : {A : Type 0} (xs ys : List A) → is_some (first xs) ≡ false → first (xs ++ ys) ≡ first ys
+first_behind [] ys h = refl
+first_behind (x ∷ xs) ys h = cc
+
+-- the rest of a list from an element on
+rest_from : {A B : Type 0} (view : A → B) (xs : List A) (i : ℕ) (x : A) → i < length xs → x ≡ get_or xs i x
+    → map view (drop i xs) ≡ view x ∷ map view (drop (i + 1) xs)
+rest_from view xs i x low is = ap (map view) (drop_more xs i x low) ∙ ap (λ y. view y ∷ map view (drop (i + 1) xs)) (sym is)
+
+-- what is found in each element, by its place
+module _ {A B : Type 0} (view : A → B) (found : ℕ → B → List Ill) where
+  abbrev pub found_from : ℕ → List A → List Ill
+  found_from i xs = flat_map (λ (v, x). found v x) (enumerate_from i (map view xs))
+
+  found_from-more : (xs : List A) (i : ℕ) (x : A) → i < length xs → x ≡ get_or xs i x
+      → found_from i (drop i xs) ≡ found i (view x) ++ found_from (i + 1) (drop (i + 1) xs)
+  found_from-more xs i x low is = ap (λ ys. flat_map (λ (v, y). found v y) (enumerate_from i ys)) (rest_from view xs i x low is)
+
+  module _ (xs : List A) (i : ℕ) (x : A) (result : Option Ill) (low : i < length xs) (is : x ≡ get_or xs i x)
+      (says : result ≡ first (found i (view x))) where
+    pub found_here : is_some result ≡ true → result ≡ first (found_from i (drop i xs))
+    found_here some =
+        says ∙ sym (first_in_front (found i (view x)) (found_from (i + 1) (drop (i + 1) xs)) (ap is_some (sym says) ∙ some))
+        ∙ sym (ap first (found_from-more xs i x low is))
+
+    pub found_later : is_some result ≡ false → first (found_from (i + 1) (drop (i + 1) xs)) ≡ first (found_from i (drop i xs))
+    found_later none =
+        sym (first_behind (found i (view x)) (found_from (i + 1) (drop (i + 1) xs)) (ap is_some (sym says) ∙ none))
+        ∙ sym (ap first (found_from-more xs i x low is))
+
+-- what is found in pairs
+module _ {A : Type 0} (test : A × A → Bool) (report : A × A → Ill) where
+  abbrev pub found_in : List (A × A) → List Ill
+  found_in two = map report (filter test two)
+
+  found_in-append : (xs ys : List (A × A)) → found_in (xs ++ ys) ≡ found_in xs ++ found_in ys
+  found_in-append xs ys = ap (map report) (filter-append test xs ys) ∙ map-append report (filter test xs) (filter test ys)
+
+  pairs_from : (xs : List A) (i : ℕ) (x : A) → i < length xs → x ≡ get_or xs i x
+      → found_in (pairs (drop i xs)) ≡ found_in (map (λ other. (x, other)) (drop (i + 1) xs)) ++ found_in (pairs (drop (i + 1) xs))
+  pairs_from xs i x low is =
+      ap (λ ys. found_in (pairs ys)) (drop_more xs i x low ∙ ap (λ y. y ∷ drop (i + 1) xs) (sym is))
+      ∙ found_in-append (map (λ other. (x, other)) (drop (i + 1) xs)) (pairs (drop (i + 1) xs))
+
+  module _ (xs : List A) (i : ℕ) (x : A) (later : List A) (result : Option Ill) (low : i < length xs) (is : x ≡ get_or xs i x)
+      (rest : later ≡ drop (i + 1) xs) (says : result ≡ first (found_in (map (λ other. (x, other)) later))) where
+    with_rest : result ≡ first (found_in (map (λ other. (x, other)) (drop (i + 1) xs)))
+    with_rest = says ∙ ap (λ ys. first (found_in (map (λ other. (x, other)) ys))) rest
+
+    pub pair_here : is_some result ≡ true → result ≡ first (found_in (pairs (drop i xs)))
+    pair_here some =
+        with_rest
+        ∙ sym (first_in_front (found_in (map (λ other. (x, other)) (drop (i + 1) xs))) (found_in (pairs (drop (i + 1) xs)))
+        (ap is_some (sym with_rest) ∙ some))
+        ∙ sym (ap first (pairs_from xs i x low is))
+
+    pub pair_later : is_some result ≡ false → first (found_in (pairs (drop (i + 1) xs))) ≡ first (found_in (pairs (drop i xs)))
+    pair_later none =
+        sym (first_behind (found_in (map (λ other. (x, other)) (drop (i + 1) xs))) (found_in (pairs (drop (i + 1) xs)))
+        (ap is_some (sym with_rest) ∙ none))
+        ∙ sym (ap first (pairs_from xs i x low is))
