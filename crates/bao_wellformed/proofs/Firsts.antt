@@ -1,5 +1,5 @@
 -- The first break of a list that is gone through in order.
-use Rattle.std.proofs.Common.{◌≡◌, ℕ, ◌+◌, ◌<◌, Bool, true, false, List, [], ◌∷◌, ◌++◌, map, filter, length, get_or, drop, Option, None, Some, is_some, refl, sym, ap, ◌∙◌, add-one}
+use Rattle.std.proofs.Common.{◌≡◌, ℕ, ◌+◌, ◌<◌, Bool, true, false, List, [], ◌∷◌, ◌++◌, map, filter, length, get_or, drop, Option, None, Some, is_some, refl, sym, ap, ◌∙◌, append_assoc}
 use Rattle.std.specs.List.{enumerate_from, flat_map}
 use Rattle.std.proofs.lemmas.List.{drop_more, map-append}
 use Rattle.std.proofs.lemmas.List.Elements.{filter-append}
@@ -20,26 +20,35 @@ rest_from : {A B : Type 0} (view : A → B) (xs : List A) (i : ℕ) (x : A) → 
     → map view (drop i xs) ≡ view x ∷ map view (drop (i + 1) xs)
 rest_from view xs i x low is = ap (map view) (drop_more xs i x low) ∙ ap (λ y. view y ∷ map view (drop (i + 1) xs)) (sym is)
 
--- what is found in each element, by its place
-module _ {A B : Type 0} (view : A → B) (found : ℕ → B → List Ill) where
-  abbrev pub found_from : ℕ → List A → List Ill
-  found_from i xs = flat_map (λ (v, x). found v x) (enumerate_from i (map view xs))
+-- what is made of each element, by its place
+module _ {A B C : Type 0} (view : A → B) (made : ℕ → B → List C) where
+  abbrev pub joined_from : ℕ → List A → List C
+  joined_from n xs = flat_map (λ (v, x). made v x) (enumerate_from n (map view xs))
 
-  found_from-more : (xs : List A) (i : ℕ) (x : A) → i < length xs → x ≡ get_or xs i x
-      → found_from i (drop i xs) ≡ found i (view x) ++ found_from (i + 1) (drop (i + 1) xs)
-  found_from-more xs i x low is = ap (λ ys. flat_map (λ (v, y). found v y) (enumerate_from i ys)) (rest_from view xs i x low is)
+  pub joined_from-more : (xs : List A) (n i : ℕ) (x : A) → i < length xs → x ≡ get_or xs i x
+      → joined_from n (drop i xs) ≡ made n (view x) ++ joined_from (n + 1) (drop (i + 1) xs)
+  joined_from-more xs n i x low is = ap (λ ys. flat_map (λ (v, y). made v y) (enumerate_from n ys)) (rest_from view xs i x low is)
 
-  module _ (xs : List A) (i : ℕ) (x : A) (result : Option Ill) (low : i < length xs) (is : x ≡ get_or xs i x)
-      (says : result ≡ first (found i (view x))) where
-    pub found_here : is_some result ≡ true → result ≡ first (found_from i (drop i xs))
+  -- a walk that joins what is made of one more element
+  pub one_joined : (xs : List A) (n i : ℕ) (x : A) (before after whole : List C) → i < length xs → x ≡ get_or xs i x
+      → before ++ joined_from n (drop i xs) ≡ whole → after ≡ before ++ made n (view x) → after ++ joined_from (n + 1) (drop (i + 1) xs) ≡ whole
+  one_joined xs n i x before after whole low is so_far more =
+      ap (λ ys. ys ++ joined_from (n + 1) (drop (i + 1) xs)) more
+      ∙ append_assoc before (made n (view x)) (joined_from (n + 1) (drop (i + 1) xs))
+      ∙ ap (λ ys. before ++ ys) (sym (joined_from-more xs n i x low is)) ∙ so_far
+
+  -- the first of what is made
+  module _ (xs : List A) (n i : ℕ) (x : A) (result : Option C) (low : i < length xs) (is : x ≡ get_or xs i x)
+      (says : result ≡ first (made n (view x))) where
+    pub found_here : is_some result ≡ true → result ≡ first (joined_from n (drop i xs))
     found_here some =
-        says ∙ sym (first_in_front (found i (view x)) (found_from (i + 1) (drop (i + 1) xs)) (ap is_some (sym says) ∙ some))
-        ∙ sym (ap first (found_from-more xs i x low is))
+        says ∙ sym (first_in_front (made n (view x)) (joined_from (n + 1) (drop (i + 1) xs)) (ap is_some (sym says) ∙ some))
+        ∙ sym (ap first (joined_from-more xs n i x low is))
 
-    pub found_later : is_some result ≡ false → first (found_from (i + 1) (drop (i + 1) xs)) ≡ first (found_from i (drop i xs))
+    pub found_later : is_some result ≡ false → first (joined_from (n + 1) (drop (i + 1) xs)) ≡ first (joined_from n (drop i xs))
     found_later none =
-        sym (first_behind (found i (view x)) (found_from (i + 1) (drop (i + 1) xs)) (ap is_some (sym says) ∙ none))
-        ∙ sym (ap first (found_from-more xs i x low is))
+        sym (first_behind (made n (view x)) (joined_from (n + 1) (drop (i + 1) xs)) (ap is_some (sym says) ∙ none))
+        ∙ sym (ap first (joined_from-more xs n i x low is))
 
 -- what is found in pairs
 module _ {A : Type 0} (test : A × A → Bool) (report : A × A → Ill) where

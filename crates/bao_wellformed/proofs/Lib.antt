@@ -1,1 +1,3 @@
 pub mod Firsts
+pub mod Fits
+pub mod MapLemmas

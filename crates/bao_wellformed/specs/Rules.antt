@@ -11,6 +11,8 @@ use Rattle.bao_config.specs.Data.{ConfigData, VmData, IpcData}
 use Rattle.bao_wellformed.specs.declared.ill.Ill.{Ill}
 use Rattle.bao_wellformed.specs.declared.piece.Piece.{Piece}
 use Rattle.bao_wellformed.specs.declared.claim.Claim.{Claim}
+use Rattle.bao_wellformed.specs.declared.claim.Claimed.TheVariants.{Cores, Ports, Shmems, Irqs}
+use Rattle.bao_wellformed.specs.Claims.{claims}
 use Rattle.bao_wellformed.specs.Ranges.{address_space_end, end, overlaps, lies_in}
 use Rattle.bao_wellformed.specs.Break.{broken, indexed, pairs, in_each_vm}
 
@@ -122,12 +124,6 @@ foreign_cores cfg v vm =
 abbrev pub rule_10 : ConfigData → List Ill
 rule_10 cfg = in_each_vm (foreign_cores cfg) cfg
 
--- what the VMs claim: the numbers of each of them, in order, with VM and place
-abbrev pub claims : (VmData → List ℕ) → ConfigData → List Claim
-claims numbers_of cfg =
-    flat_map (λ (v, vm). map (λ (j, number). record { vm = v; item = j; number = number }) (indexed (numbers_of vm)))
-    (indexed cfg.vms)
-
 -- what is claimed twice: the later claim of each two is named
 abbrev pub claimed_twice : ℕ → (Claim → Claim → Bool) → List Claim → List Ill
 claimed_twice rule are_one claimed =
@@ -142,19 +138,9 @@ are_one one other = one.number == other.number
 abbrev pub are_one_in_vm : Claim → Claim → Bool
 are_one_in_vm one other = one.vm == other.vm && one.number == other.number
 
-abbrev pub ports_of : VmData → List ℕ
-ports_of vm = map (λ dev. dev.port) vm.devs
-
-abbrev pub shmems_of : VmData → List ℕ
-shmems_of vm = map (λ ipc. ipc.shmem) vm.ipcs
-
--- the interrupt numbers of a VM: its devices' first, then those of its windows
-abbrev pub irqs_of : VmData → List ℕ
-irqs_of vm = map (λ dev. dev.irq) vm.devs ++ flat_map (λ ipc. ipc.irqs) vm.ipcs
-
 -- 11: no core is claimed twice
 abbrev pub rule_11 : ConfigData → List Ill
-rule_11 cfg = claimed_twice 11 are_one (claims (λ vm. vm.cores) cfg)
+rule_11 cfg = claimed_twice 11 are_one (claims Cores cfg)
 
 -- 12: each region lies in one bank
 abbrev pub regions_outside : ConfigData → ℕ → VmData → List Ill
@@ -188,7 +174,7 @@ rule_14 cfg = in_each_vm (devs_without_port cfg) cfg
 
 -- 15: no port is claimed twice
 abbrev pub rule_15 : ConfigData → List Ill
-rule_15 cfg = claimed_twice 15 are_one (claims ports_of cfg)
+rule_15 cfg = claimed_twice 15 are_one (claims Ports cfg)
 
 -- 16: each ipc names a shared memory
 abbrev pub ipcs_without_shmem : ConfigData → ℕ → VmData → List Ill
@@ -201,7 +187,7 @@ rule_16 cfg = in_each_vm (ipcs_without_shmem cfg) cfg
 
 -- 17: no VM has two windows on one shared memory
 abbrev pub rule_17 : ConfigData → List Ill
-rule_17 cfg = claimed_twice 17 are_one_in_vm (claims shmems_of cfg)
+rule_17 cfg = claimed_twice 17 are_one_in_vm (claims Shmems cfg)
 
 -- an ipc without its shared memory has no events to be wrong about
 abbrev pub lacks_irqs : Option Shmem → IpcData → Bool
@@ -219,4 +205,4 @@ rule_18 cfg = in_each_vm (ipcs_without_irqs cfg) cfg
 
 -- 19: no interrupt number stands twice in a VM; the item is its place among all of the VM
 abbrev pub rule_19 : ConfigData → List Ill
-rule_19 cfg = claimed_twice 19 are_one_in_vm (claims irqs_of cfg)
+rule_19 cfg = claimed_twice 19 are_one_in_vm (claims Irqs cfg)

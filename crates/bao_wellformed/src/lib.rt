@@ -15,5 +15,5 @@ mod sample;
 mod vm_rules;
 
 pub use ill::{Ill, NO_RANGE, NONE};
-pub use map::{Kind, MapEntry};
+pub use map::{Kind, MAP_ENTRIES, MapEntry, grant, map_of};
 pub use sample::rows_of_the_sample;

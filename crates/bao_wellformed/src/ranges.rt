@@ -1,11 +1,19 @@
 //! How two ranges lie.
 ghost use Rattle.std.specs.Prelude.{◌≡◌, ◌+◌, ◌^◌, ◌<◌};
 ghost use Rattle.bao_config.specs.Config.{config_data};
+ghost use Rattle.bao_wellformed.specs.Map.{is_within};
 ghost use Rattle.bao_wellformed.specs.Ranges.{lies_in, overlaps};
 ghost use Rattle.bao_wellformed.specs.Rules.{distributor, redistributors, port_range, lies_in_a_bank};
 
 use bao_config::{Config, PortPlace};
 use bao_types::ByteRange;
+
+/// Whether the byte at `at` is in the range.
+pub(crate) fn contains(range: &ByteRange, at: u64) -> bool
+    ensures { result ≡ is_within range.now at }
+{
+    range.base <= at && at - range.base < range.size
+}
 
 /// Whether some byte is in both ranges. A range of no bytes overlaps none.
 pub(crate) fn overlaps(one: &ByteRange, other: &ByteRange) -> bool
