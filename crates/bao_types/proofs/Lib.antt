@@ -1,4 +1,5 @@
 pub mod Matches
 mod Powers
+pub mod Ranges
 mod Repeated
 mod Sums

@@ -1,5 +1,9 @@
 -- Numbers as bytes in memory: the least byte first, as A64 stores them.
-use Rattle.std.specs.Prelude.{ℕ, suc, zero, ◌+◌, ◌*◌, ◌/◌, ◌%◌, List, [], ◌∷◌}
+use Rattle.std.specs.Prelude.{◌≡◌, ◌⊎◌, ℕ, suc, zero, ◌+◌, ◌*◌, ◌/◌, ◌%◌, List, [], ◌∷◌}
+
+-- the widths of an access in bytes: a byte, a halfword, a word or a doubleword
+abbrev pub IsWidth : ℕ → Type 0
+IsWidth width = (width ≡ 1) ⊎ (width ≡ 2) ⊎ (width ≡ 4) ⊎ (width ≡ 8)
 
 -- the number that these bytes are
 abbrev pub little_endian : List ℕ → ℕ

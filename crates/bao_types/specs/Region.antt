@@ -1,5 +1,5 @@
 -- The bits of the base and the limit register of a protection region (PMSAv8-64, with this project's layout).
-use Rattle.std.specs.Prelude.{◌≡◌, ◌==◌, ℕ, ◌+◌, ◌*◌, ◌≤◌, nat_le, Bool, ◌&&◌, List, filter, bit_and}
+use Rattle.std.specs.Prelude.{◌≡◌, ◌==◌, ℕ, ◌+◌, ◌*◌, nat_le, Bool, ◌&&◌, List, filter, bit_and}
 use Rattle.bao_types.specs.declared.region.Region.{Region}
 use Rattle.bao_types.specs.Bits.{field}
 
@@ -11,29 +11,29 @@ first_byte region = field region.base 47 6 * 64
 abbrev pub last_byte : Region → ℕ
 last_byte region = field region.limit 47 6 * 64 + 63
 
+-- a region of zeros, which is off
+abbrev pub no_region : Region
+no_region = record { base = 0; limit = 0 }
+
 -- the byte lies in the region, be it enabled or not; where the base is above the limit no byte does
-abbrev pub IsCovered : Region → ℕ → Type 0
-IsCovered region at = (first_byte region ≤ at) × (at ≤ last_byte region)
+abbrev pub covers : Region → ℕ → Bool
+covers region at = nat_le (first_byte region) at && nat_le at (last_byte region)
 
 -- EN
-abbrev pub IsEnabled : Region → Type 0
-IsEnabled region = field region.limit 0 0 ≡ 1
+abbrev pub is_enabled : Region → Bool
+is_enabled region = field region.limit 0 0 == 1
 
 -- AP
 abbrev pub access_permission : Region → ℕ
 access_permission region = field region.base 3 2
 
 -- XN
-abbrev pub IsExecuteNever : Region → Type 0
-IsExecuteNever region = field region.base 1 1 ≡ 1
+abbrev pub is_execute_never : Region → Bool
+is_execute_never region = field region.base 1 1 == 1
 
 -- SH
 abbrev pub shareability : Region → ℕ
 shareability region = field region.base 5 4
-
--- NS
-abbrev pub IsNonSecure : Region → Type 0
-IsNonSecure region = field region.limit 4 4 ≡ 1
 
 -- the attribute index
 abbrev pub attribute_index : Region → ℕ
@@ -50,18 +50,6 @@ kept_limit value = bit_and value 0x0000FFFFFFFFFFDF
 -- no bit stands outside the fields
 abbrev pub IsWithinMasks : Region → Type 0
 IsWithinMasks region = (kept_base region.base ≡ region.base) × (kept_limit region.limit ≡ region.limit)
-
--- EN, as a test
-abbrev pub is_enabled : Region → Bool
-is_enabled region = field region.limit 0 0 == 1
-
--- XN, as a test
-abbrev pub is_execute_never : Region → Bool
-is_execute_never region = field region.base 1 1 == 1
-
--- the byte lies in the region, as a test
-abbrev pub covers : Region → ℕ → Bool
-covers region at = nat_le (first_byte region) at && nat_le at (last_byte region)
 
 -- the region counts for the byte: it is enabled and the byte lies in it
 abbrev pub is_match : Region → ℕ → Bool

@@ -20,6 +20,18 @@ pub struct ListReg {
     pub active: bool,
 }
 
+impl ListReg {
+    ghost use Rattle.std.specs.Prelude.{◌≡◌};
+    ghost use Rattle.bao_types.specs.ListReg.{is_free};
+
+    /// Whether the interrupt is neither pending nor active, so that the register can take another.
+    pub fn is_free(&self) -> bool
+        ensures { result ≡ is_free self.now }
+    {
+        !self.pending && !self.active
+    }
+}
+
 impl Model for ListReg {
     ghost use Rattle.std.specs.Prelude.{◌≡◌, ◌<◌, ◌%◌};
     ghost use Rattle.bao_types.specs.ListReg.{ListRegData};

@@ -1,4 +1,4 @@
-ghost use Rattle.std.specs.Prelude.{◌≡◌, ◌↔◌, IsTrue};
+ghost use Rattle.std.specs.Prelude.{◌≡◌};
 
 use std::marker::Model;
 
@@ -20,12 +20,12 @@ pub struct Region {
 }
 
 impl Region {
-    ghost use Rattle.bao_types.specs.Region.{IsCovered, IsEnabled, access_permission, IsExecuteNever, is_match};
+    ghost use Rattle.bao_types.specs.Region.{access_permission, covers, is_enabled, is_execute_never, is_match};
 
     /// Whether the byte at `at` lies between the region's base and the last byte of its limit granule.
     /// The region need not be enabled.
     pub fn covers(&self, at: u64) -> bool
-        ensures { IsTrue result ↔ IsCovered self.now at }
+        ensures { result ≡ covers self.now at }
     {
         let granule = at / 64;
         self.base / 64 % (1 << 42) <= granule && granule <= self.limit / 64 % (1 << 42)
@@ -33,7 +33,7 @@ impl Region {
 
     /// EN: whether the region counts at all.
     pub fn is_enabled(&self) -> bool
-        ensures { IsTrue result ↔ IsEnabled self.now }
+        ensures { result ≡ is_enabled self.now }
     {
         self.limit % 2 == 1
     }
@@ -54,7 +54,7 @@ impl Region {
 
     /// XN: whether the bytes may not be executed.
     pub fn is_execute_never(&self) -> bool
-        ensures { IsTrue result ↔ IsExecuteNever self.now }
+        ensures { result ≡ is_execute_never self.now }
     {
         self.base / 2 % 2 == 1
     }

@@ -3,10 +3,11 @@ use Rattle.std.proofs.Common.{◌≡◌, ◌≢◌, ℕ, ◌+◌, ◌-◌, ◌^�
 use Rattle.std.proofs.lemmas.Bool.{cases_lt}
 use Rattle.std.proofs.lemmas.List.{append-nil}
 use Rattle.std.proofs.lemmas.List.Elements.{All-push, All-nil}
-use Rattle.std.specs.Prelude.{Any}
+use Rattle.std.specs.Prelude.{Any, IsTrue}
 use Rattle.bao_types.specs.declared.access.Class.{Class}
 use Rattle.bao_types.specs.declared.access.Class.TheVariants.{Nothing}
-use Rattle.bao_types.specs.ByteRange.{IsWithin}
+use Rattle.bao_types.specs.ByteRange.{end, is_within}
+use Rattle.bao_types.proofs.Ranges.{is_within-between, is_within-bounds}
 use Rattle.region_list.specs.declared.run.Run.{Run}
 use Rattle.region_list.specs.Layers.{AreInSpace, IsInSpace}
 use Rattle.region_list.specs.Runs.{AreMaximalRuns, AreRunsFrom, IsMaximalRun}
@@ -16,7 +17,7 @@ module _ (class_of : ℕ → Class) where
   something : (run : Run) → IsMaximalRun class_of run → class_of run.range.base ≢ Nothing
   something run maximal nothing =
       let more : 0 < run.range.size = maximal.not_empty in
-      maximal.not_nothing (sym (maximal.equal run.range.base (omega arith, omega arith)) ∙ nothing)
+      maximal.not_nothing (sym (maximal.equal run.range.base (is_within-between run.range run.range.base (omega arith) (omega arith))) ∙ nothing)
 
   -- behind bytes of class Nothing no run begins later than another
   base_le : (low : ℕ) (run other : Run) → IsMaximalRun class_of run → low ≤ run.range.base →
@@ -34,7 +35,7 @@ module _ (class_of : ℕ → Class) where
     where
       by_order : (other.range.size < run.range.size) ⊎ (run.range.size ≤ other.range.size) → run.range.size ≤ other.range.size
       by_order (inl longer) =
-          absurd (another.behind (maximal.equal (other.range.base + other.range.size) (omega arith, omega arith) ∙ class))
+          absurd (another.after (maximal.equal (end other.range) (is_within-between run.range (end other.range) (omega arith) (omega arith)) ∙ class))
       by_order (inr fits) = fits
 
   -- the runs behind bytes of class Nothing are the only ones
@@ -43,7 +44,7 @@ module _ (class_of : ℕ → Class) where
   one_list [] (other ∷ others) low none (maximal, from, nothing, rest) = absurd (something other maximal (none other.range.base from))
   one_list (run ∷ runs) [] low (maximal, from, nothing, rest) none = absurd (something run maximal (none run.range.base from))
   one_list (run ∷ runs) (other ∷ others) low (maximal, from, nothing, rest) (another, other_from, other_nothing, other_rest) =
-      λ t. record { range = record { base = base t; size = size t }; class = class t } ∷ one_list runs others (run.range.base + run.range.size) rest moved t
+      λ t. record { range = record { base = base t; size = size t }; class = class t } ∷ one_list runs others (end run.range) rest moved t
     where
       base : run.range.base ≡ other.range.base
       base = omega (arith, base_le low run other maximal from other_nothing, base_le low other run another other_from nothing)
@@ -52,29 +53,29 @@ module _ (class_of : ℕ → Class) where
       class =
           let more : 0 < run.range.size = maximal.not_empty in
           let others_more : 0 < other.range.size = another.not_empty in
-          sym (maximal.equal run.range.base (omega arith, omega arith)) ∙ another.equal run.range.base (omega (arith, base), omega (arith, base))
+          sym (maximal.equal run.range.base (is_within-between run.range run.range.base (omega arith) (omega arith))) ∙ another.equal run.range.base (is_within-between other.range run.range.base (omega (arith, base)) (omega (arith, base)))
 
       size : run.range.size ≡ other.range.size
       size = omega (arith, size_le run other maximal another base class, size_le other run another maximal (sym base) (sym class))
 
-      moved : AreRunsFrom class_of (run.range.base + run.range.size) others
+      moved : AreRunsFrom class_of (end run.range) others
       moved = subst (λ low. AreRunsFrom class_of low others) (sym (λ t. base t + size t)) other_rest
 
   -- a byte of a class other than Nothing is in a run
-  pub in_a_run : (runs : List Run) (low at : ℕ) → AreRunsFrom class_of low runs → low ≤ at → class_of at ≢ Nothing → Any (λ run. IsWithin run.range at) runs
+  pub in_a_run : (runs : List Run) (low at : ℕ) → AreRunsFrom class_of low runs → low ≤ at → class_of at ≢ Nothing → Any (λ run. IsTrue (is_within run.range at)) runs
   in_a_run [] low at none from something = absurd (something (none at from))
   in_a_run (run ∷ runs) low at (maximal, _, nothing, rest) from something =
-      by_order (cases_lt at run.range.base) (cases_lt at (run.range.base + run.range.size))
-      (λ behind. in_a_run runs (run.range.base + run.range.size) at rest behind something)
+      by_order (cases_lt at run.range.base) (cases_lt at (end run.range))
+      (λ behind. in_a_run runs (end run.range) at rest behind something)
     where
-      later : Any (λ one. IsWithin one.range at) runs → Any (λ one. IsWithin one.range at) (run ∷ runs)
+      later : Any (λ one. IsTrue (is_within one.range at)) runs → Any (λ one. IsTrue (is_within one.range at)) (run ∷ runs)
       later (place, found, within, here, inside) = (suc place, found, omega arith, here, inside)
 
       by_order :
-          (at < run.range.base) ⊎ (run.range.base ≤ at) → (at < run.range.base + run.range.size) ⊎ (run.range.base + run.range.size ≤ at) →
-          (run.range.base + run.range.size ≤ at → Any (λ one. IsWithin one.range at) runs) → Any (λ one. IsWithin one.range at) (run ∷ runs)
+          (at < run.range.base) ⊎ (run.range.base ≤ at) → (at < end run.range) ⊎ (end run.range ≤ at) →
+          (end run.range ≤ at → Any (λ one. IsTrue (is_within one.range at)) runs) → Any (λ one. IsTrue (is_within one.range at)) (run ∷ runs)
       by_order (inl before) _ _ = absurd (something (nothing at from before))
-      by_order (inr begun) (inl inside) _ = (0, run, omega arith, refl, (begun, inside))
+      by_order (inr begun) (inl inside) _ = (0, run, omega arith, refl, is_within-between run.range at begun inside)
       by_order (inr begun) (inr behind) among = later (among behind)
 
   -- bytes of class Nothing in front make no run
@@ -168,9 +169,9 @@ module _ (class_of : ℕ → Class) where
           record {
             not_empty = omega arith;
             not_nothing = something;
-            equal = λ byte (from, before). stretch.equal byte from (omega arith) ∙ sym is;
+            equal = λ byte inside. let bounds = is_within-bounds run.range byte inside in stretch.equal byte bounds.0 (omega (arith, bounds.1)) ∙ sym is;
             before = λ byte before same. found.apart within byte before (same ∙ is);
-            behind = subst (λ byte. class_of byte ≢ class) (sym ends) (differs (cases_lt end (2 ^ 48)));
+            after = subst (λ byte. class_of byte ≢ class) (sym ends) (differs (cases_lt end (2 ^ 48)));
           }
 
       first : (rest : List Run) → AreRunsFrom class_of end rest → AreRunsFrom class_of at (run ∷ rest)

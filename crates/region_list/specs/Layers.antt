@@ -1,13 +1,10 @@
 -- The class of a byte by ranges that are laid over one another.
-use Rattle.std.specs.Prelude.{ℕ, ◌+◌, ◌^◌, ◌≤◌, nat_le, nat_lt, ◌&&◌, Bool, if◌then◌else◌, List, fold, All}
+use Rattle.std.specs.Prelude.{ℕ, ◌≤◌, if◌then◌else◌, List, fold, All}
 use Rattle.bao_types.specs.declared.access.Class.{Class}
 use Rattle.bao_types.specs.declared.access.Class.TheVariants.{Nothing}
 use Rattle.bao_types.specs.declared.range.ByteRange.{ByteRange}
+use Rattle.bao_types.specs.ByteRange.{address_space_end, end, is_within}
 use Rattle.region_list.specs.declared.run.Run.{Run}
-
--- the byte is in the range, as a test
-abbrev pub is_within : ByteRange → ℕ → Bool
-is_within range at = nat_le range.base at && nat_lt at (range.base + range.size)
 
 -- the class of the byte at `at`, where it has the class `below` under `layer`
 abbrev pub class_over : ℕ → Class → Run → Class
@@ -19,7 +16,7 @@ class_in layers at = fold (class_over at) Nothing layers
 
 -- the range ends in the address space of 2^48 bytes
 abbrev pub IsInSpace : ByteRange → Type 0
-IsInSpace range = range.base + range.size ≤ 2 ^ 48
+IsInSpace range = end range ≤ address_space_end
 
 -- each range ends in the address space
 abbrev pub AreInSpace : List Run → Type 0

@@ -1,10 +1,10 @@
 -- What a contract sees of a `Ranges`: the class of each byte.
 --
 -- No clause depends on how the layers are kept: each speaks of them through `class_of_byte` alone.
-use Rattle.std.specs.Prelude.{◌≡◌, ℕ, List}
+use Rattle.std.specs.Prelude.{◌≡◌, ℕ, IsTrue, IsFalse, List}
 use Rattle.bao_types.specs.declared.access.Class.{Class}
 use Rattle.bao_types.specs.declared.range.ByteRange.{ByteRange}
-use Rattle.bao_types.specs.ByteRange.{IsWithin}
+use Rattle.bao_types.specs.ByteRange.{is_within}
 use Rattle.region_list.specs.declared.run.Run.{Run}
 use Rattle.region_list.specs.Layers.{class_in}
 
@@ -22,5 +22,5 @@ IsUnchanged old new = (at : ℕ) → class_of_byte new at ≡ class_of_byte old 
 
 -- each byte of `range` has the class `class`, and every other byte the class that it had
 pub record IsLaidOver (old new : RangesData) (range : ByteRange) (class : Class) : Type 0 where
-  pub inside : (at : ℕ) → IsWithin range at → class_of_byte new at ≡ class
-  pub outside : (at : ℕ) → ¬ IsWithin range at → class_of_byte new at ≡ class_of_byte old at
+  pub inside : (at : ℕ) → IsTrue (is_within range at) → class_of_byte new at ≡ class
+  pub outside : (at : ℕ) → IsFalse (is_within range at) → class_of_byte new at ≡ class_of_byte old at

@@ -1,6 +1,6 @@
-ghost use Rattle.std.specs.Prelude.{◌≡◌, ◌≢◌, ℕ, List, Any};
+ghost use Rattle.std.specs.Prelude.{◌≡◌, ◌≢◌, ℕ, IsTrue, List, Any};
 ghost use Rattle.bao_types.specs.declared.access.Class.{Class};
-ghost use Rattle.bao_types.specs.ByteRange.{IsWithin};
+ghost use Rattle.bao_types.specs.ByteRange.{is_within};
 ghost use Rattle.region_list.specs.declared.run.Run.{Run};
 ghost use Rattle.region_list.specs.Runs.{AreMaximalRuns};
 
@@ -10,5 +10,5 @@ pub fn laws_of_runs()
     ensures one_list { (class_of : ℕ → Class) (runs others : List Run) →
         AreMaximalRuns class_of runs → AreMaximalRuns class_of others → runs ≡ others }
     ensures complete { (class_of : ℕ → Class) (runs : List Run) (at : ℕ) →
-        AreMaximalRuns class_of runs → class_of at ≢ Class.Nothing → Any (λ run. IsWithin run.range at) runs }
+        AreMaximalRuns class_of runs → class_of at ≢ Class.Nothing → Any (λ run. IsTrue (is_within run.range at)) runs }
 {}

@@ -1,13 +1,11 @@
-ghost use Rattle.std.specs.Prelude.{◌≡◌, ◌≢◌, ◌+◌, ◌^◌, ◌<◌, ◌≤◌, ◌&&◌, ℕ, IfOk, nat_le};
+ghost use Rattle.std.specs.Prelude.{◌≡◌, ◌≢◌, ◌<◌, ◌≤◌, ℕ, IfOk};
+ghost use Rattle.bao_types.specs.ByteRange.{address_space_end, end};
 ghost use Rattle.region_list.specs.Layers.{AreInSpace, class_in, class_over, IsInSpace};
 ghost use Rattle.region_list.specs.Runs.{AreMaximalRuns};
 
 use crate::Run;
-use bao_types::{ByteRange, Class, OutOfMemory};
+use bao_types::{ADDRESS_SPACE_END, ByteRange, Class, OutOfMemory};
 use std::alloc::Global;
-
-/// The end of the address space.
-const SPACE_END: u64 = 0x1_0000_0000_0000;
 
 /// The class of the byte at `at` under these layers.
 pub(crate) fn class_at(layers: &[Run], at: u64) -> Class
@@ -32,22 +30,12 @@ pub(crate) fn laid_over(alloc: Global, layers: &[Run], top: Run) -> Result<Vec<R
 {
     let mut laid = Vec::new(alloc);
     for layer in layers {
-        if !is_covered(layer.range, top.range) {
+        if !layer.range.lies_in(&top.range) {
             laid.push(*layer).map_err(|_| OutOfMemory)?;
         }
     }
     laid.push(top).map_err(|_| OutOfMemory)?;
     Ok(laid)
-}
-
-/// Whether `range` begins and ends in `cover`, which then has all its bytes.
-fn is_covered(range: ByteRange, cover: ByteRange) -> bool
-    requires range { IsInSpace range }
-    requires cover { IsInSpace cover }
-    ensures { result ≡ (nat_le cover.base range.base
-        && nat_le (range.base + range.size) (cover.base + cover.size)) }
-{
-    cover.base <= range.base && range.base + range.size <= cover.base + cover.size
 }
 
 /// The maximal runs under these layers, in address order.
@@ -58,7 +46,7 @@ pub(crate) fn runs(alloc: Global, layers: &[Run]) -> Result<Vec<Run>, OutOfMemor
 {
     let mut runs = Vec::new(alloc);
     let mut at = 0;
-    while at < SPACE_END {
+    while at < ADDRESS_SPACE_END {
         let end = run_end(layers, at);
         let class = class_at(layers, at);
         if class != Class::Nothing {
@@ -71,58 +59,58 @@ pub(crate) fn runs(alloc: Global, layers: &[Run]) -> Result<Vec<Run>, OutOfMemor
     Ok(runs)
 }
 
-/// The first byte behind `at` whose class is another one, or the end of the space.
+/// The first byte after `at` whose class is another one, or the end of the space.
 fn run_end(layers: &[Run], at: u64) -> u64
     requires layers { AreInSpace layers.now }
-    requires at { at < 2 ^ 48 }
+    requires at { at < address_space_end }
     ensures above { at < result }
-    ensures in_space { result ≤ 2 ^ 48 }
+    ensures in_space { result ≤ address_space_end }
     ensures equal { (byte : ℕ) → at ≤ byte → byte < result →
         class_in layers.now byte ≡ class_in layers.now at }
-    ensures differs { result < 2 ^ 48 → class_in layers.now result ≢ class_in layers.now at }
+    ensures differs { result < address_space_end → class_in layers.now result ≢ class_in layers.now at }
 {
     let class = class_at(layers, at);
-    let mut end = edge_behind(layers, at);
-    while end < SPACE_END {
+    let mut end = edge_after(layers, at);
+    while end < ADDRESS_SPACE_END {
         if class_at(layers, end) != class {
             return end;
         }
-        end = edge_behind(layers, end);
+        end = edge_after(layers, end);
     }
     end
 }
 
-/// The first byte behind `at` where a layer begins or ends, or the end of the space.
-fn edge_behind(layers: &[Run], at: u64) -> u64
+/// The first byte after `at` where a layer begins or ends, or the end of the space.
+fn edge_after(layers: &[Run], at: u64) -> u64
     requires layers { AreInSpace layers.now }
-    requires at { at < 2 ^ 48 }
+    requires at { at < address_space_end }
     ensures above { at < result }
-    ensures in_space { result ≤ 2 ^ 48 }
+    ensures in_space { result ≤ address_space_end }
     ensures equal { (byte : ℕ) → at ≤ byte → byte < result →
         class_in layers.now byte ≡ class_in layers.now at }
 {
-    let mut edge = SPACE_END;
+    let mut edge = ADDRESS_SPACE_END;
     for layer in layers {
-        edge = edge.min(range_edge_behind(layer.range, at));
+        edge = edge.min(range_edge_after(layer.range, at));
     }
     edge
 }
 
-/// The first of the range's base and end that is behind `at`, or the end of the space.
-fn range_edge_behind(range: ByteRange, at: u64) -> u64
+/// The first of the range's base and end that is after `at`, or the end of the space.
+fn range_edge_after(range: ByteRange, at: u64) -> u64
     requires range { IsInSpace range }
-    requires at { at < 2 ^ 48 }
+    requires at { at < address_space_end }
     ensures above { at < result }
-    ensures in_space { result ≤ 2 ^ 48 }
+    ensures in_space { result ≤ address_space_end }
     ensures base { at < range.base → result ≤ range.base }
-    ensures end { at < range.base + range.size → result ≤ range.base + range.size }
+    ensures last { at < end range → result ≤ end range }
 {
-    let end = range.base + range.size;
+    let end = range.end();
     if at < range.base {
         range.base
     } else if at < end {
         end
     } else {
-        SPACE_END
+        ADDRESS_SPACE_END
     }
 }

@@ -1,5 +1,6 @@
-ghost use Rattle.std.specs.Prelude.{◌≡◌, ◌+◌, ◌^◌, ◌≤◌, ℕ, IfOk, OnErr, OnOk};
-ghost use Rattle.region_list.specs.Layers.{AreInSpace};
+ghost use Rattle.std.specs.Prelude.{◌≡◌, ◌≤◌, ℕ, IfOk, OnErr, OnOk};
+ghost use Rattle.bao_types.specs.ByteRange.{address_space_end};
+ghost use Rattle.region_list.specs.Layers.{AreInSpace, IsInSpace};
 ghost use Rattle.region_list.specs.Ranges.{class_of_byte, IsUnchanged, IsLaidOver};
 ghost use Rattle.region_list.specs.Runs.{AreMaximalRuns};
 
@@ -45,7 +46,7 @@ impl Ranges {
         range: ByteRange,
         class: Class,
     ) -> Result<(), OutOfMemory>
-        requires { range.base + range.size ≤ 2 ^ 48 }
+        requires { IsInSpace range }
         ensures ok { OnOk result (IsLaidOver self.old self.new range class) }
         ensures err { OnErr result (IsUnchanged self.old self.new) }
     {
@@ -55,7 +56,7 @@ impl Ranges {
 
     /// Leaves a hole: gives the bytes of `range` class Nothing.
     pub fn cut(&mut self, alloc: Global, range: ByteRange) -> Result<(), OutOfMemory>
-        requires { range.base + range.size ≤ 2 ^ 48 }
+        requires { IsInSpace range }
         ensures ok { OnOk result (IsLaidOver self.old self.new range Class.Nothing) }
         ensures err { OnErr result (IsUnchanged self.old self.new) }
     {
@@ -65,7 +66,7 @@ impl Ranges {
     /// The class of the byte at `at`.
     pub fn class_at(&self, at: u64) -> Class
         ensures value { result ≡ class_of_byte self.now at }
-        ensures beyond { 2 ^ 48 ≤ at → result ≡ Class.Nothing }
+        ensures beyond { address_space_end ≤ at → result ≡ Class.Nothing }
     {
         layers::class_at(&self.layers, at)
     }

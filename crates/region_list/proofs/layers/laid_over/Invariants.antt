@@ -1,5 +1,6 @@
 use Rattle.std.proofs.Common.{◌≡◌, ℕ, false, take}
-use Rattle.region_list.specs.Layers.{AreInSpace, class_in, is_within}
+use Rattle.bao_types.specs.ByteRange.{is_within}
+use Rattle.region_list.specs.Layers.{AreInSpace, class_in}
 use Rattle.region_list.proofs.layers.laid_over.Given as goal
 
 abbrev pub invariant-loop-layer : goal.invariant-loop-layer

@@ -1,6 +1,6 @@
 use Rattle.std.proofs.Common.{◌≡◌, ◌^◌, ◌<◌, ◌≤◌, ℕ, take}
 use Rattle.region_list.specs.Layers.{class_in}
-use Rattle.region_list.proofs.layers.edge_behind.Given as goal
+use Rattle.region_list.proofs.layers.edge_after.Given as goal
 
 abbrev pub invariant-loop-layer : goal.invariant-loop-layer
 invariant-loop-layer l =
