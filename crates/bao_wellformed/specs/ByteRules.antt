@@ -6,7 +6,7 @@ use Rattle.std.specs.Prelude.{ℕ, ◌==◌, Bool, true, false, not, ◌&&◌, i
 use Rattle.bao_types.specs.declared.range.ByteRange.{ByteRange}
 use Rattle.bao_config.specs.Data.{ConfigData, VmData}
 use Rattle.bao_wellformed.specs.declared.ill.Ill.{Ill}
-use Rattle.bao_wellformed.specs.Ranges.{end}
+use Rattle.bao_types.specs.ByteRange.{end}
 use Rattle.bao_wellformed.specs.Break.{broken, no_range, indexed, pairs, in_each_vm}
 use Rattle.bao_wellformed.specs.Map.{Kind, Ram, Port, Window, Hole, MapEntry, is_within, map_of, kind_of}
 

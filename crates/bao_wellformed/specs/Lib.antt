@@ -2,7 +2,6 @@ pub mod Break
 pub mod ByteRules
 pub mod Claims
 pub mod Map
-pub mod Ranges
 pub mod Rules
 pub mod Sample
 pub mod WellFormed

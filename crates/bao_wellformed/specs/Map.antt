@@ -1,8 +1,11 @@
 -- What each byte of the address space is to a VM and to a core, asked byte by byte.
-use Rattle.std.specs.Prelude.{ℕ, ◌+◌, ◌==◌, ◌&&◌, nat_le, nat_lt, Bool, true, false, if◌then◌else◌, List, ◌++◌, map, reverse, Option, None, Some, slice_get}
+use Rattle.std.specs.Prelude.{ℕ, ◌==◌, Bool, true, false, if◌then◌else◌, List, ◌++◌, map, reverse, Option, None, Some, slice_get}
 use Rattle.std.specs.List.{find, filter_map, list_any}
 use Rattle.std.specs.Option.{option_map}
 use Rattle.bao_types.specs.declared.range.ByteRange.{ByteRange}
+pub use Rattle.bao_types.specs.ByteRange.{is_within}
+use Rattle.bao_types.specs.ByteRange.{is_in_one}
+use Rattle.bao_types.specs.Shape.{port_range}
 use Rattle.bao_types.specs.declared.access.Class.{Class}
 use Rattle.bao_types.specs.declared.access.Class.TheVariants.{Nothing, Hyp, Guest}
 use Rattle.bao_types.specs.declared.access.Access.{Access}
@@ -16,16 +19,13 @@ use Rattle.bao_config.specs.declared.config.MapRegion.{MapRegion}
 use Rattle.bao_config.specs.declared.config.Dev.{Dev}
 use Rattle.bao_config.specs.Data.{ConfigData, VmData, IpcData}
 
-abbrev pub is_within : ByteRange → ℕ → Bool
-is_within range at = nat_le range.base at && nat_lt at (range.base + range.size)
-
 abbrev pub region_entry : MapRegion → MapEntry
 region_entry region = record { range = region.range; kind = Ram region.write region.exec }
 
 -- the first port of that id; a dev without its port has no bytes
 abbrev pub dev_entry : ConfigData → Dev → Option MapEntry
 dev_entry cfg dev =
-    option_map (λ port. record { range = record { base = port.base; size = 64 }; kind = Port dev.port })
+    option_map (λ port. record { range = port_range port.base; kind = Port dev.port })
     (find (λ port. port.id == dev.port) cfg.platform.ports)
 
 -- an ipc without its shared memory has no bytes
@@ -44,7 +44,7 @@ map_of cfg vm =
 
 -- the byte is one of the 64 of a port of the platform
 abbrev pub is_platform_port : ConfigData → ℕ → Bool
-is_platform_port cfg at = list_any (λ port. is_within (record { base = port.base; size = 64 }) at) cfg.platform.ports
+is_platform_port cfg at = is_in_one (λ port. port_range port.base) cfg.platform.ports at
 
 -- the kind that an entry gives, where there is one
 abbrev pub kind_of : Option MapEntry → Kind

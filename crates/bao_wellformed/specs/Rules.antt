@@ -4,7 +4,7 @@ use Rattle.std.specs.Prelude.{ℕ, ◌+◌, ◌-◌, ◌*◌, ◌==◌, nat_le, 
 use Rattle.std.specs.List.{list_any}
 use Rattle.std.specs.Cmp.Lexicographic.{pointwise}
 use Rattle.bao_types.specs.declared.range.ByteRange.{ByteRange}
-use Rattle.bao_config.specs.declared.config.PortPlace.{PortPlace}
+use Rattle.bao_types.specs.Shape.{port_range}
 use Rattle.bao_config.specs.declared.config.Shmem.{Shmem}
 use Rattle.bao_config.specs.declared.config.Dev.{Dev}
 use Rattle.bao_config.specs.Data.{ConfigData, VmData, IpcData}
@@ -13,11 +13,8 @@ use Rattle.bao_wellformed.specs.declared.piece.Piece.{Piece}
 use Rattle.bao_wellformed.specs.declared.claim.Claim.{Claim}
 use Rattle.bao_wellformed.specs.declared.claim.Claimed.TheVariants.{Cores, Ports, Shmems, Irqs}
 use Rattle.bao_wellformed.specs.Claims.{claims}
-use Rattle.bao_wellformed.specs.Ranges.{address_space_end, end, overlaps, lies_in}
+use Rattle.bao_types.specs.ByteRange.{address_space_end, end, overlaps, lies_in}
 use Rattle.bao_wellformed.specs.Break.{broken, indexed, pairs, in_each_vm}
-
-abbrev pub port_range : PortPlace → ByteRange
-port_range port = record { base = port.base; size = 64 }
 
 -- the emulated frames of the interrupt controller: one distributor, and a redistributor for each core of the platform
 abbrev pub distributor : ConfigData → ByteRange
@@ -32,7 +29,7 @@ vm_ranges vm = vm.place ∷ map (λ region. region.range) vm.regions ++ vm.guard
 
 abbrev pub all_ranges : ConfigData → List ByteRange
 all_ranges cfg =
-    cfg.platform.banks ++ distributor cfg ∷ redistributors cfg ∷ map port_range cfg.platform.ports
+    cfg.platform.banks ++ distributor cfg ∷ redistributors cfg ∷ map (λ port. port_range port.base) cfg.platform.ports
     ++ cfg.hyp ∷ map (λ shmem. shmem.range) cfg.shmems ++ flat_map vm_ranges cfg.vms
 
 -- 1: no range ends above 2^48
@@ -65,7 +62,7 @@ frame range = record { range = range; with_margin = record { base = range.base -
 abbrev pub pieces : ConfigData → List Piece
 pieces cfg =
     map plain cfg.platform.banks ++ frame (distributor cfg) ∷ frame (redistributors cfg)
-    ∷ map (λ port. plain (port_range port)) cfg.platform.ports
+    ∷ map (λ port. plain (port_range port.base)) cfg.platform.ports
 
 -- the margin doesn't count between two frames
 abbrev pub are_too_near : Piece → Piece → Bool
@@ -81,7 +78,7 @@ rule_3 cfg =
 -- 4: no two ports have one id or one interrupt number
 abbrev pub rule_4 : ConfigData → List Ill
 rule_4 cfg =
-    map (λ (one, other). record (broken 4) { first = port_range one; second = port_range other })
+    map (λ (one, other). record (broken 4) { first = port_range one.base; second = port_range other.base })
     (filter (λ (one, other). one.id == other.id || one.spi == other.spi) (pairs cfg.platform.ports))
 
 abbrev pub lies_in_a_bank : ConfigData → ByteRange → Bool

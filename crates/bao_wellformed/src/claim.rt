@@ -95,3 +95,64 @@ fn push_claims(all: &mut Vec<Claim>, place: u8, numbers: &[u16]) -> Result<(), A
     }
     Ok(())
 }
+
+/// A rule that nothing is claimed twice: by two VMs or by one, or only by one of them.
+struct ClaimedOnce {
+    rule: u8,
+    /// Whether two VMs may claim one number.
+    in_each_vm: bool,
+}
+
+impl PairRule<Claim> for ClaimedOnce {
+    ghost use Rattle.bao_wellformed.specs.Break.{broken};
+    ghost use Rattle.std.specs.Prelude.{if◌then◌else◌};
+    ghost use Rattle.bao_wellformed.specs.Rules.{are_one, are_one_in_vm};
+
+    ghost is_broken = { λ rule one other. if rule.in_each_vm then are_one_in_vm one other else are_one one other };
+
+    ghost report = { λ rule one other. record (broken rule.rule) { vm = other.vm; item = other.item } };
+
+    fn judge(&self, one: &Claim, other: &Claim) -> Option<Ill> {
+        let is_same_vm = !self.in_each_vm || one.vm == other.vm;
+        if is_same_vm && one.number == other.number {
+            return Some(Ill {
+                vm: other.vm,
+                item: other.item,
+                ..Ill::of(self.rule)
+            });
+        }
+        None
+    }
+}
+
+/// 11: no core is claimed twice.
+pub(crate) fn rule_11(alloc: Global, config: &Config) -> Result<Option<Ill>, AllocError>
+    ensures { IfOk result (λ found. found ≡ first (rule_11 (config_data config.now))) }
+{
+    let all = claims(alloc, Claimed::Cores, config)?;
+    Ok(first_of_pairs(&ClaimedOnce { rule: 11, in_each_vm: false }, all.as_slice()))
+}
+
+/// 15: no port is claimed twice.
+pub(crate) fn rule_15(alloc: Global, config: &Config) -> Result<Option<Ill>, AllocError>
+    ensures { IfOk result (λ found. found ≡ first (rule_15 (config_data config.now))) }
+{
+    let all = claims(alloc, Claimed::Ports, config)?;
+    Ok(first_of_pairs(&ClaimedOnce { rule: 15, in_each_vm: false }, all.as_slice()))
+}
+
+/// 17: no VM has two windows on one shared memory.
+pub(crate) fn rule_17(alloc: Global, config: &Config) -> Result<Option<Ill>, AllocError>
+    ensures { IfOk result (λ found. found ≡ first (rule_17 (config_data config.now))) }
+{
+    let all = claims(alloc, Claimed::Shmems, config)?;
+    Ok(first_of_pairs(&ClaimedOnce { rule: 17, in_each_vm: true }, all.as_slice()))
+}
+
+/// 19: no interrupt number stands twice in a VM.
+pub(crate) fn rule_19(alloc: Global, config: &Config) -> Result<Option<Ill>, AllocError>
+    ensures { IfOk result (λ found. found ≡ first (rule_19 (config_data config.now))) }
+{
+    let all = claims(alloc, Claimed::Irqs, config)?;
+    Ok(first_of_pairs(&ClaimedOnce { rule: 19, in_each_vm: true }, all.as_slice()))
+}

@@ -5,7 +5,7 @@ ghost use Rattle.bao_config.specs.Data.{vm_data, ipc_data};
 ghost use Rattle.bao_wellformed.specs.Map.{map_of, region_entry, dev_entry, ipc_entry, guard_entry, grant};
 ghost use Rattle.bao_wellformed.specs.ByteRules.{cover, kind_in};
 
-use crate::ranges::{contains, port_range};
+use crate::ranges::port_range;
 use arrayvec::ArrayVec;
 use bao_config::{Config, Dev, Ipc, MapRegion, Vm};
 use bao_types::{ByteRange, Class};
@@ -168,7 +168,7 @@ pub(crate) fn cover(entries: &[MapEntry], at: u64) -> Option<MapEntry>
 {
     let mut found = None;
     for entry in entries {
-        if contains(&entry.range, at) {
+        if entry.range.contains(at) {
             found = Some(*entry);
         }
     }

@@ -5,7 +5,7 @@ ghost use Rattle.bao_wellformed.specs.Break.{first, pairs};
 ghost use Rattle.bao_wellformed.specs.Rules.{rule_4, rule_8};
 
 use crate::Ill;
-use crate::ranges::{overlaps, port_range};
+use crate::ranges::port_range;
 use bao_config::{Config, PortPlace, Shmem};
 
 /// A rule on each two items of a list.
@@ -26,7 +26,7 @@ pub(crate) trait PairRule<T> {
 
 /// The first break of the rule: the one of the least earlier item, and for that of the least later item.
 pub(crate) fn first_of_pairs<T, R: PairRule<T>>(rule: &R, items: &[T]) -> Option<Ill>
-    requires { length items.now < 2 ^ 32 }
+    requires { length items.now < 2 ^ 63 }
     ensures { result ≡ first (map (λ (one, other). R.report rule.now one other)
         (filter (λ (one, other). R.is_broken rule.now one other) (pairs items.now))) }
 {
@@ -66,11 +66,11 @@ struct PortsDiffer;
 impl PairRule<PortPlace> for PortsDiffer {
     ghost use Rattle.std.specs.Prelude.{◌==◌, ◌||◌};
     ghost use Rattle.bao_wellformed.specs.Break.{broken};
-    ghost use Rattle.bao_wellformed.specs.Rules.{port_range};
+    ghost use Rattle.bao_types.specs.Shape.{port_range};
 
     ghost is_broken = { λ rule one other. one.id == other.id || one.spi == other.spi };
 
-    ghost report = { λ rule one other. record (broken 4) { first = port_range one; second = port_range other } };
+    ghost report = { λ rule one other. record (broken 4) { first = port_range one.base; second = port_range other.base } };
 
     fn judge(&self, one: &PortPlace, other: &PortPlace) -> Option<Ill> {
         if one.id == other.id || one.spi == other.spi {
@@ -95,14 +95,14 @@ struct ShmemsApart;
 
 impl PairRule<Shmem> for ShmemsApart {
     ghost use Rattle.bao_wellformed.specs.Break.{broken};
-    ghost use Rattle.bao_wellformed.specs.Ranges.{overlaps};
+    ghost use Rattle.bao_types.specs.ByteRange.{overlaps};
 
     ghost is_broken = { λ rule one other. overlaps one.range other.range };
 
     ghost report = { λ rule one other. record (broken 8) { first = one.range; second = other.range } };
 
     fn judge(&self, one: &Shmem, other: &Shmem) -> Option<Ill> {
-        if overlaps(&one.range, &other.range) {
+        if one.range.overlaps(&other.range) {
             return Some(Ill {
                 first: one.range,
                 second: other.range,

@@ -6,7 +6,7 @@ ghost use Rattle.bao_wellformed.specs.Break.{first, in_each_vm};
 ghost use Rattle.bao_wellformed.specs.Rules.{names_a_port, lacks_irqs};
 
 use crate::Ill;
-use crate::ranges::{lies_in_a_bank, overlaps};
+use crate::ranges::lies_in_a_bank;
 use bao_config::{Config, Dev, Ipc, Vm};
 
 /// A rule on each VM by itself.
@@ -91,7 +91,7 @@ impl VmRule for RegionsOffHypervisor {
 
     fn first_break(config: &Config, place: u8, vm: &Vm) -> Option<Ill> {
         for (item, region) in vm.regions.as_slice().iter().enumerate() {
-            if overlaps(&region.range, &config.hyp) {
+            if region.range.overlaps(&config.hyp) {
                 return Some(Ill {
                     vm: place,
                     item: item as u8,

@@ -1,6 +1,6 @@
 use Rattle.std.proofs.Common.{◌≡◌, drop, filter}
 use Rattle.bao_config.specs.declared.config.Shmem.{Shmem}
-use Rattle.bao_wellformed.specs.Ranges.{overlaps}
+use Rattle.bao_types.specs.ByteRange.{overlaps}
 use Rattle.bao_wellformed.proofs.platform_rules.rule_7.Given as goal
 
 abbrev pub invariant-loop-shmem : goal.invariant-loop-shmem
