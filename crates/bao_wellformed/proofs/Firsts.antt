@@ -3,6 +3,7 @@ use Rattle.std.proofs.Common.{◌≡◌, ℕ, ◌+◌, ◌<◌, Bool, true, fals
 use Rattle.std.specs.List.{enumerate_from, flat_map}
 use Rattle.std.proofs.lemmas.List.{drop_more, map-append}
 use Rattle.std.proofs.lemmas.List.Elements.{filter-append}
+use Rattle.std.proofs.lemmas.List.Concat.{flat_map-append}
 use Rattle.bao_wellformed.specs.declared.ill.Ill.{Ill}
 use Rattle.bao_wellformed.specs.Break.{first, pairs}
 
@@ -81,3 +82,40 @@ module _ {A : Type 0} (test : A × A → Bool) (report : A × A → Ill) where
         sym (first_behind (found_in (map (λ other. (x, other)) (drop (i + 1) xs))) (found_in (pairs (drop (i + 1) xs)))
         (ap is_some (sym with_rest) ∙ none))
         ∙ sym (ap first (pairs_from xs i x low is))
+
+-- what is made of each two elements, by their places
+module _ {A B C : Type 0} (view : A → B) (made : ℕ → B → ℕ → B → List C) where
+  abbrev pub of_two : (ℕ × B) × (ℕ × B) → List C
+  of_two (one, other) = made one.0 one.1 other.0 other.1
+
+  abbrev later_of : ℕ → B → ℕ × B → List C
+  later_of n b (w, other) = made n b w other
+
+  abbrev pub joined_pairs : ℕ → List A → List C
+  joined_pairs n xs = flat_map of_two (pairs (enumerate_from n (map view xs)))
+
+  with_each : (n : ℕ) (b : B) (others : List (ℕ × B))
+      → flat_map of_two (map (λ other. ((n, b), other)) others) ≡ flat_map (later_of n b) others
+  with_each n b [] = refl
+  with_each n b (other ∷ others) = ap (λ ys. made n b other.0 other.1 ++ ys) (with_each n b others)
+
+  joined_pairs-more : (xs : List A) (n : ℕ) (x : A) → n < length xs → x ≡ get_or xs n x
+      → joined_pairs n (drop n xs) ≡ joined_from view (made n (view x)) (n + 1) (drop (n + 1) xs) ++ joined_pairs (n + 1) (drop (n + 1) xs)
+  joined_pairs-more xs n x low is =
+      let later = enumerate_from (n + 1) (map view (drop (n + 1) xs)) in
+      ap (λ ys. flat_map of_two (pairs (enumerate_from n ys))) (rest_from view xs n x low is)
+      ∙ flat_map-append of_two (map (λ other. ((n, view x), other)) later) (pairs later)
+      ∙ ap (λ ys. ys ++ joined_pairs (n + 1) (drop (n + 1) xs)) (with_each n (view x) later)
+
+  module _ (xs : List A) (n : ℕ) (x : A) (result : Option C) (low : n < length xs) (is : x ≡ get_or xs n x)
+      (says : result ≡ first (joined_from view (made n (view x)) (n + 1) (drop (n + 1) xs))) where
+    pub two_here : is_some result ≡ true → result ≡ first (joined_pairs n (drop n xs))
+    two_here some =
+        says
+        ∙ sym (first_in_front (joined_from view (made n (view x)) (n + 1) (drop (n + 1) xs)) (joined_pairs (n + 1) (drop (n + 1) xs)) (ap is_some (sym says) ∙ some))
+        ∙ sym (ap first (joined_pairs-more xs n x low is))
+
+    pub two_later : is_some result ≡ false → first (joined_pairs (n + 1) (drop (n + 1) xs)) ≡ first (joined_pairs n (drop n xs))
+    two_later none =
+        sym (first_behind (joined_from view (made n (view x)) (n + 1) (drop (n + 1) xs)) (joined_pairs (n + 1) (drop (n + 1) xs)) (ap is_some (sym says) ∙ none))
+        ∙ sym (ap first (joined_pairs-more xs n x low is))

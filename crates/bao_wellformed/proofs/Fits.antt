@@ -1,13 +1,18 @@
 -- What the bounds of a configuration say of its parts.
-use Rattle.std.proofs.Common.{◌≡◌, ℕ, ◌+◌, ◌*◌, ◌<◌, ◌≤◌, List, [], ◌∷◌, ◌++◌, map, length, get_or, All, subst, sym, ap, ◌∙◌, arith}
-use Rattle.std.specs.List.{flat_map}
+use Rattle.std.proofs.Common.{◌≡◌, ℕ, zero, suc, ◌+◌, ◌*◌, ◌^◌, ◌<◌, ◌≤◌, ◌==◌, Bool, true, false, cond, List, [], ◌∷◌, ◌++◌, map, filter_map, find, length, get_or, slice_get, All, Option, Some, None, IfSome, option_map, refl, subst, sym, ap, ◌∙◌, arith, lit≤}
+use Rattle.std.specs.List.{flat_map, cons_option}
 use Rattle.std.proofs.lemmas.List.{length-map, length-append, get_or-map}
-use Rattle.std.proofs.lemmas.List.Elements.{All-head, All-tail, All-get_or}
-use Rattle.bao_config.specs.Data.{IpcData, VmData}
-use Rattle.bao_config.specs.Fits.{VmFits, IpcFits}
+use Rattle.std.proofs.lemmas.List.Elements.{All-append, All-cons, All-head, All-tail, All-map, All-nil, All-weaker}
+use Rattle.bao_types.specs.ByteRange.{end}
+use Rattle.bao_types.specs.Shape.{port_range}
+use Rattle.bao_config.specs.declared.config.PortPlace.{PortPlace}
+use Rattle.bao_config.specs.declared.config.Dev.{Dev}
+use Rattle.bao_config.specs.Data.{ConfigData, IpcData, VmData}
+use Rattle.bao_config.specs.Fits.{ConfigFits, IpcFits, PortFits, RangeFits, RegionFits, ShmemFits, VmFits}
 use Rattle.bao_wellformed.specs.declared.claim.Claimed.{Claimed}
 use Rattle.bao_wellformed.specs.declared.claim.Claimed.TheVariants.{Cores, Ports, Shmems, Irqs}
 use Rattle.bao_wellformed.specs.Claims.{numbers_of}
+use Rattle.bao_wellformed.specs.Map.{MapEntry, Port, Window, map_of, region_entry, dev_entry, ipc_entry, guard_entry}
 
 -- what holds of each element as it is seen holds of one that was read
 pub viewed_fits : {A B : Type 0} (Fits : B → Type 0) (view : A → B) (xs : List A) (i : ℕ) (x : A) → i < length xs → x ≡ get_or xs i x
@@ -30,3 +35,62 @@ few_numbers Shmems vm fits = omega (arith, length-map vm.ipcs (λ ipc. ipc.shmem
 few_numbers Irqs vm fits =
     omega (arith, length-append (map (λ dev. dev.irq) vm.devs) (flat_map (λ ipc. ipc.irqs) vm.ipcs), length-map vm.devs (λ dev. dev.irq),
     fits.devs.short_enough, few_irqs vm.ipcs fits.ipcs.each, fits.ipcs.short_enough)
+
+-- what is picked fits, if whatever may be picked does
+picked_fit : {A B : Type 0} (Fits : B → Type 0) (f : A → Option B) → ((x : A) → IfSome (f x) Fits) → (xs : List A) → All Fits (filter_map f xs)
+picked_fit Fits f each [] = All-nil Fits
+picked_fit {A} {B} Fits f each (x ∷ xs) = one_more (f x) (each x) (picked_fit Fits f each xs)
+  where
+    one_more : (o : Option B) → IfSome o Fits → All Fits (filter_map f xs) → All Fits (cons_option o (filter_map f xs))
+    one_more None fit rest = rest
+    one_more (Some y) fit rest = All-cons Fits y (filter_map f xs) fit rest
+
+-- the first that passes is one of them
+found_fits : {A : Type 0} (Fits : A → Type 0) (p : A → Bool) (xs : List A) → All Fits xs → IfSome (find p xs) Fits
+found_fits Fits p [] all = tt
+found_fits {A} Fits p (x ∷ xs) all = by_test (p x) (found_fits Fits p xs (All-tail Fits x xs all))
+  where
+    by_test : (b : Bool) → IfSome (find p xs) Fits → IfSome (cond b (Some x) (find p xs)) Fits
+    by_test true rest = All-head Fits x xs all
+    by_test false rest = rest
+
+got_fits : {A : Type 0} (Fits : A → Type 0) (xs : List A) (i : ℕ) → All Fits xs → IfSome (slice_get xs i) Fits
+got_fits Fits [] i all = tt
+got_fits Fits (x ∷ xs) zero all = All-head Fits x xs all
+got_fits Fits (x ∷ xs) (suc i) all = got_fits Fits xs i (All-tail Fits x xs all)
+
+made_fits : {A B : Type 0} (Fits : A → Type 0) (Made : B → Type 0) (f : A → B) → ((x : A) → Fits x → Made (f x)) → (o : Option A) → IfSome o Fits → IfSome (option_map f o) Made
+made_fits Fits Made f each None fit = tt
+made_fits Fits Made f each (Some x) fit = each x fit
+
+abbrev pub EntryFits : MapEntry → Type 0
+EntryFits entry = RangeFits entry.range
+
+-- each entry of the map of a VM is a range that the key table allows
+pub map_fits : (cfg : ConfigData) (vm : VmData) → ConfigFits cfg → VmFits vm → All EntryFits (map_of cfg vm)
+map_fits cfg vm fits vm_fits =
+    All-append EntryFits (map region_entry vm.regions ++ filter_map (dev_entry cfg) vm.devs ++ filter_map (ipc_entry cfg) vm.ipcs) (map guard_entry vm.guards)
+    (All-append EntryFits (map region_entry vm.regions ++ filter_map (dev_entry cfg) vm.devs) (filter_map (ipc_entry cfg) vm.ipcs)
+    (All-append EntryFits (map region_entry vm.regions) (filter_map (dev_entry cfg) vm.devs)
+    (All-map EntryFits region_entry vm.regions (All-weaker RegionFits (λ region. RangeFits region.range) (λ region fit. fit.range) vm.regions vm_fits.regions.each))
+    (picked_fit EntryFits (dev_entry cfg) dev_fits vm.devs))
+    (picked_fit EntryFits (ipc_entry cfg) ipc_fits vm.ipcs))
+    (All-map EntryFits guard_entry vm.guards vm_fits.guards.each)
+  where
+    port_fits : (id : ℕ) (port : PortPlace) → PortFits port → EntryFits (record { range = port_range port.base; kind = Port id })
+    port_fits id port fit = record { base = fit.base; size = record { least = lit≤ tt; most = lit≤ tt; multiple = refl } }
+
+    dev_fits : (dev : Dev) → IfSome (dev_entry cfg dev) EntryFits
+    dev_fits dev =
+        made_fits PortFits EntryFits (λ port. record { range = port_range port.base; kind = Port dev.port }) (port_fits dev.port)
+        (find (λ port. port.id == dev.port) cfg.platform.ports) (found_fits PortFits (λ port. port.id == dev.port) cfg.platform.ports fits.platform.ports.each)
+
+    ipc_fits : (ipc : IpcData) → IfSome (ipc_entry cfg ipc) EntryFits
+    ipc_fits ipc =
+        made_fits ShmemFits EntryFits (λ shmem. record { range = shmem.range; kind = Window ipc.shmem ipc.write }) (λ shmem fit. fit.range)
+        (slice_get cfg.shmems ipc.shmem) (got_fits ShmemFits cfg.shmems ipc.shmem fits.shmems.each)
+
+-- so no bound of it is beyond 64 bits
+pub map_ends : (cfg : ConfigData) (vm : VmData) → ConfigFits cfg → VmFits vm → All (λ entry. end entry.range < 2 ^ 64) (map_of cfg vm)
+map_ends cfg vm fits vm_fits =
+    All-weaker EntryFits (λ entry. end entry.range < 2 ^ 64) (λ entry fit. omega (arith, fit.base.most, fit.size.most)) (map_of cfg vm) (map_fits cfg vm fits vm_fits)

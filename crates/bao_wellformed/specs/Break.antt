@@ -30,6 +30,10 @@ pairs (one ∷ later) = map (λ other. (one, other)) later ++ pairs later
 abbrev pub in_each_vm : (ℕ → VmData → List Ill) → ConfigData → List Ill
 in_each_vm breaks cfg = flat_map (λ (v, vm). breaks v vm) (indexed cfg.vms)
 
+-- what a rule finds in each two VMs, with their places
+abbrev pub in_each_two_vms : (ℕ → VmData → ℕ → VmData → List Ill) → ConfigData → List Ill
+in_each_two_vms breaks cfg = flat_map (λ (one, other). breaks one.0 one.1 other.0 other.1) (pairs (indexed cfg.vms))
+
 -- the first of a list
 abbrev pub first : {A : Type 0} → List A → Option A
 first items = slice_get items 0

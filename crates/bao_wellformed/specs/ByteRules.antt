@@ -2,12 +2,12 @@
 --
 -- A map changes only where one of its entries begins or ends, so the least byte of a kind is 0 or one of these bounds. That
 -- the byte so found is the least of all is a law of this crate.
-use Rattle.std.specs.Prelude.{ℕ, ◌==◌, Bool, true, false, not, ◌&&◌, if◌then◌else◌, min, List, [], ◌∷◌, ◌++◌, map, fold, flat_map, reverse, find, Option, None, Some, option_to_list}
+use Rattle.std.specs.Prelude.{ℕ, ◌==◌, Bool, true, false, not, ◌&&◌, ◌||◌, if◌then◌else◌, min, List, [], ◌∷◌, ◌++◌, map, fold, flat_map, reverse, find, Option, None, Some, option_to_list}
 use Rattle.bao_types.specs.declared.range.ByteRange.{ByteRange}
 use Rattle.bao_config.specs.Data.{ConfigData, VmData}
 use Rattle.bao_wellformed.specs.declared.ill.Ill.{Ill}
 use Rattle.bao_types.specs.ByteRange.{end}
-use Rattle.bao_wellformed.specs.Break.{broken, no_range, indexed, pairs, in_each_vm}
+use Rattle.bao_wellformed.specs.Break.{broken, no_range, in_each_vm, in_each_two_vms}
 use Rattle.bao_wellformed.specs.Map.{Kind, Ram, Port, Window, Hole, MapEntry, is_within, map_of, kind_of}
 
 abbrev pub lesser : ℕ → Option ℕ → ℕ
@@ -31,44 +31,45 @@ cover entries at = find (λ entry. is_within entry.range at) (reverse entries)
 abbrev pub kind_in : List MapEntry → ℕ → Kind
 kind_in entries at = kind_of (cover entries at)
 
-abbrev pub is_ram : Kind → Bool
-is_ram (Ram write exec) = true
-is_ram (Port id) = false
-is_ram (Window shmem write) = false
-is_ram Hole = false
+-- memory of the VM's own, which may be executed if that is asked
+abbrev pub is_ram : (executable : Bool) → Kind → Bool
+is_ram executable (Ram write exec) = exec || not executable
+is_ram executable (Port id) = false
+is_ram executable (Window shmem write) = false
+is_ram executable Hole = false
 
-abbrev pub is_executable_ram : Kind → Bool
-is_executable_ram (Ram write exec) = exec
-is_executable_ram (Port id) = false
-is_executable_ram (Window shmem write) = false
-is_executable_ram Hole = false
+-- the byte is in the range, but isn't such memory
+abbrev pub is_lacking : (executable : Bool) → ByteRange → List MapEntry → ℕ → Bool
+is_lacking executable range entries at = is_within range at && not (is_ram executable (kind_in entries at))
 
--- the byte is in the range, but isn't of the wanted kind
-abbrev pub is_lacking : (Kind → Bool) → ByteRange → List MapEntry → ℕ → Bool
-is_lacking is_wanted range entries at = is_within range at && not (is_wanted (kind_in entries at))
-
-abbrev pub least_lacking : (Kind → Bool) → ByteRange → List MapEntry → Option ℕ
-least_lacking is_wanted range entries =
-    least_of (is_lacking is_wanted range entries) (range.base ∷ end range ∷ bounds_of entries)
+abbrev pub least_lacking : (executable : Bool) → ByteRange → List MapEntry → Option ℕ
+least_lacking executable range entries =
+    least_of (is_lacking executable range entries) (range.base ∷ end range ∷ bounds_of entries)
 
 abbrev pub one_byte : ℕ → ByteRange
 one_byte at = record { base = at; size = 1 }
 
 -- 20: the place of a VM is RAM in its map
-abbrev pub rule_20 : ConfigData → List Ill
-rule_20 cfg = in_each_vm (λ v vm.
+abbrev pub place_not_ram : ConfigData → ℕ → VmData → List Ill
+place_not_ram cfg v vm =
     map (λ at. record (broken 20) { vm = v; first = vm.place; second = one_byte at })
-    (option_to_list (least_lacking is_ram vm.place (map_of cfg vm)))) cfg
+    (option_to_list (least_lacking false vm.place (map_of cfg vm)))
+
+abbrev pub rule_20 : ConfigData → List Ill
+rule_20 cfg = in_each_vm (place_not_ram cfg) cfg
 
 -- the four bytes of the first instruction
 abbrev pub first_instruction : VmData → ByteRange
 first_instruction vm = record { base = vm.start; size = 4 }
 
 -- 21: the first instruction of a VM is executable RAM in its map
-abbrev pub rule_21 : ConfigData → List Ill
-rule_21 cfg = in_each_vm (λ v vm.
+abbrev pub start_not_executable : ConfigData → ℕ → VmData → List Ill
+start_not_executable cfg v vm =
     map (λ at. record (broken 21) { vm = v; second = one_byte at })
-    (option_to_list (least_lacking is_executable_ram (first_instruction vm) (map_of cfg vm)))) cfg
+    (option_to_list (least_lacking true (first_instruction vm) (map_of cfg vm)))
+
+abbrev pub rule_21 : ConfigData → List Ill
+rule_21 cfg = in_each_vm (start_not_executable cfg) cfg
 
 abbrev pub is_present : Kind → Bool
 is_present (Ram write exec) = true
@@ -100,11 +101,15 @@ range_of None = no_range
 range_of (Some entry) = entry.range
 
 -- 22: what two VMs both have is a window on one shared memory; the entries that cover the byte are named
-abbrev pub clash_of : List MapEntry → List MapEntry → ℕ → ℕ → List Ill
-clash_of ones others earlier later =
-    map (λ at. record (broken 22) { vm = later; item = earlier; first = range_of (cover ones at); second = range_of (cover others at) })
-    (option_to_list (least_clash ones others))
+abbrev pub clashes : ConfigData → ℕ → VmData → ℕ → VmData → List Ill
+clashes cfg v vm w other =
+    map (λ at. record (broken 22) {
+      vm = w;
+      item = v;
+      first = range_of (cover (map_of cfg vm) at);
+      second = range_of (cover (map_of cfg other) at);
+    })
+    (option_to_list (least_clash (map_of cfg vm) (map_of cfg other)))
 
 abbrev pub rule_22 : ConfigData → List Ill
-rule_22 cfg =
-    flat_map (λ (one, other). clash_of (map_of cfg one.1) (map_of cfg other.1) one.0 other.0) (pairs (indexed cfg.vms))
+rule_22 cfg = in_each_two_vms (clashes cfg) cfg

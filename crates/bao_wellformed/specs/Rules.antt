@@ -14,7 +14,7 @@ use Rattle.bao_wellformed.specs.declared.claim.Claim.{Claim}
 use Rattle.bao_wellformed.specs.declared.claim.Claimed.TheVariants.{Cores, Ports, Shmems, Irqs}
 use Rattle.bao_wellformed.specs.Claims.{claims}
 use Rattle.bao_types.specs.ByteRange.{address_space_end, end, overlaps, lies_in}
-use Rattle.bao_wellformed.specs.Break.{broken, indexed, pairs, in_each_vm}
+use Rattle.bao_wellformed.specs.Break.{broken, indexed, pairs, in_each_vm, in_each_two_vms}
 
 -- the emulated frames of the interrupt controller: one distributor, and a redistributor for each core of the platform
 abbrev pub distributor : ConfigData → ByteRange
@@ -107,10 +107,11 @@ rule_8 cfg =
     (filter (λ (one, other). overlaps one.range other.range) (pairs cfg.shmems))
 
 -- 9: no two VMs have one name
+abbrev pub names_alike : ConfigData → ℕ → VmData → ℕ → VmData → List Ill
+names_alike cfg v vm w other = if pointwise ◌==◌ vm.name other.name then record (broken 9) { vm = w; item = v } ∷ [] else []
+
 abbrev pub rule_9 : ConfigData → List Ill
-rule_9 cfg =
-    map (λ (one, other). record (broken 9) { vm = other.0; item = one.0 })
-    (filter (λ (one, other). pointwise ◌==◌ one.1.name other.1.name) (pairs (indexed cfg.vms)))
+rule_9 cfg = in_each_two_vms (names_alike cfg) cfg
 
 -- 10: each core of a VM is one of the platform
 abbrev pub foreign_cores : ConfigData → ℕ → VmData → List Ill

@@ -4,6 +4,7 @@
 //! nothing. It is asked byte by byte here; the packing of a core's protection regions goes over ranges, in a crate above.
 #![tactic(auto)]
 
+mod byte_rules;
 mod claim;
 mod ill;
 mod map;
@@ -12,6 +13,7 @@ mod piece;
 mod platform_rules;
 mod ranges;
 mod sample;
+mod vm_pair_rules;
 mod vm_rules;
 
 pub use ill::{Ill, NO_RANGE, NONE};

@@ -13,6 +13,7 @@ use bao_config::{Config, Dev, Ipc, Vm};
 pub(crate) trait VmRule {
     ghost use Rattle.std.specs.Prelude.{ℕ, List};
     ghost use Rattle.bao_config.specs.Data.{ConfigData, VmData, vm_data};
+    ghost use Rattle.bao_config.specs.Fits.{VmFits};
     ghost use Rattle.bao_wellformed.specs.declared.ill.Ill.{Ill};
 
     /// What breaks the rule in the VM at this place.
@@ -20,6 +21,7 @@ pub(crate) trait VmRule {
 
     /// The first of these breaks.
     fn first_break(config: &Config, place: u8, vm: &Vm) -> Option<Ill>
+        requires { VmFits (vm_data vm.now) }
         ensures { result ≡ first (breaks (config_data config.now) place (vm_data vm.now)) };
 }
 

@@ -2,8 +2,17 @@ use Rattle.std.proofs.Common.{◌≡◌, ◌<◌, ◌∙◌, List, length, get_o
 use Rattle.bao_config.specs.declared.config.Vm.{Vm}
 use Rattle.bao_config.specs.Config.{config_data}
 use Rattle.bao_config.specs.Data.{vm_data}
+use Rattle.bao_config.specs.Fits.{VmFits}
+use Rattle.bao_wellformed.proofs.Fits.{viewed_fits}
 use Rattle.bao_wellformed.proofs.Firsts.{found_here, found_later}
 use Rattle.bao_wellformed.proofs.vm_rules.first_of_vms.Goals as goal
+
+pub first_break-found-requires : goal.first_break-found-requires
+first_break-found-requires g c =
+    let same = c.deref-vm-items.ensures.value in
+    viewed_fits VmFits vm_data c.args.config.now.vms.items c.loop-place.place c.vm-item.result
+    (subst (λ (vms : List Vm). c.loop-place.place < length vms) same c.loop-place-test.true)
+    (subst (λ (vms : List Vm). c.vm-item.result ≡ get_or vms c.loop-place.place c.vm-item.result) same c.vm-item.is) c.args.config.now.fits.vms.each
 
 pub returns-then-is_some : goal.returns-then-is_some
 returns-then-is_some g c =
