@@ -16,6 +16,18 @@ pub first_behind : {A : Type 0} (xs ys : List A) → is_some (first xs) ≡ fals
 first_behind [] ys h = refl
 first_behind (x ∷ xs) ys h = cc
 
+-- a list without a first element is empty
+pub empty_without_first : {A : Type 0} (xs : List A) → None ≡ first xs → xs ≡ []
+empty_without_first [] h = refl
+empty_without_first (x ∷ xs) h = cc
+
+-- rule by rule: the first break of a rule is the first of all behind it too, and without one the next rule decides
+pub stops : {A : Type 0} (result : Option A) (xs ys : List A) → result ≡ first xs → is_some result ≡ true → result ≡ first (xs ++ ys)
+stops result xs ys says some = says ∙ sym (first_in_front xs ys (ap is_some (sym says) ∙ some))
+
+pub goes_on : {A : Type 0} (result : Option A) (xs ys : List A) → result ≡ first xs → is_some result ≡ false → first ys ≡ first (xs ++ ys)
+goes_on result xs ys says none = sym (first_behind xs ys (ap is_some (sym says) ∙ none))
+
 -- the rest of a list from an element on
 rest_from : {A B : Type 0} (view : A → B) (xs : List A) (i : ℕ) (x : A) → i < length xs → x ≡ get_or xs i x
     → map view (drop i xs) ≡ view x ∷ map view (drop (i + 1) xs)

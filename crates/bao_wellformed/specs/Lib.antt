@@ -1,5 +1,6 @@
 pub mod Break
 pub mod ByteRules
+pub mod Checked
 pub mod Claims
 pub mod Map
 pub mod Rules

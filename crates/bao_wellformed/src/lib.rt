@@ -5,6 +5,8 @@
 #![tactic(auto)]
 
 mod byte_rules;
+mod all_rules;
+mod checked;
 mod claim;
 mod ill;
 mod map;
@@ -16,6 +18,8 @@ mod sample;
 mod vm_pair_rules;
 mod vm_rules;
 
+pub use all_rules::check;
+pub use checked::{CheckError, Checked};
 pub use ill::{Ill, NO_RANGE, NONE};
 pub use map::{Kind, MAP_ENTRIES, MapEntry, grant, map_of};
 pub use sample::rows_of_the_sample;
