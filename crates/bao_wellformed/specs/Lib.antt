@@ -2,6 +2,7 @@ pub mod Break
 pub mod ByteRules
 pub mod Checked
 pub mod Claims
+pub mod Laws
 pub mod Map
 pub mod Rules
 pub mod Sample
