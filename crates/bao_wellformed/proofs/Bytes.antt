@@ -30,7 +30,7 @@ kind_alike entries one other alike =
     (find_alike (λ entry. is_within entry.range one) (λ entry. is_within entry.range other) (reverse entries)
     (all_reversed (λ entry. is_within entry.range one ≡ is_within entry.range other) entries alike))
 
-within_next : (range : ByteRange) (at : ℕ) → (range.base == suc at) ≡ false → (end range == suc at) ≡ false → is_within range (suc at) ≡ is_within range at
+pub within_next : (range : ByteRange) (at : ℕ) → (range.base == suc at) ≡ false → (end range == suc at) ≡ false → is_within range (suc at) ≡ is_within range at
 within_next range at base last =
     ap (λ b. b && nat_lt (suc at) (end range)) from ∙ ap (λ b. nat_le range.base at && b) before
   where

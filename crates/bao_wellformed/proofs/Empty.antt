@@ -1,6 +1,9 @@
 -- What an empty list of breaks says of the items.
-use Rattle.std.proofs.Common.{◌≡◌, ◌≢◌, ℕ, zero, suc, ◌+◌, ◌<◌, Bool, true, false, cond, ◌||◌, List, [], ◌∷◌, ◌++◌, map, filter, option_to_list, slice_get, Option, Some, None, refl, sym, subst, ap, ◌∙◌, arith}
+use Rattle.std.proofs.Common.{◌≡◌, ◌≢◌, ℕ, zero, suc, ◌+◌, ◌<◌, Bool, true, false, cond, ◌||◌, List, [], ◌∷◌, ◌++◌, map, filter, option_to_list, slice_get, get_or, length, All, Option, Some, None, refl, sym, subst, ap, ◌∙◌, arith}
 use Rattle.std.specs.List.{enumerate_from, flat_map, list_any, position_from}
+use Rattle.std.proofs.lemmas.List.{get_or-map, length-map}
+use Rattle.std.proofs.lemmas.List.Elements.{filter-append}
+use Rattle.std.proofs.lemmas.Option.{slice_get-get_or}
 use Rattle.bao_wellformed.specs.Break.{pairs}
 
 pub left_empty : {A : Type 0} (xs ys : List A) → xs ++ ys ≡ [] → xs ≡ []
@@ -109,3 +112,19 @@ only_position {A} p (y ∷ ys) n (suc v) x got pass one =
     by_test : (b : Bool) → p y ≡ b → position_from p (n + 1) ys ≡ Some (n + 1 + v) → position_from p n (y ∷ ys) ≡ Some (n + suc v)
     by_test true e rest = absurd (let z = one 0 y refl e in omega (arith, z))
     by_test false e rest = let place : n + 1 + v ≡ n + suc v = omega arith in rw e (rest ∙ ap Some place)
+
+pub none_passes_in : {A : Type 0} (p : A → Bool) (xs ys : List A) → filter p (xs ++ ys) ≡ [] → (filter p xs ≡ []) × (filter p ys ≡ [])
+none_passes_in p xs ys e =
+    let parts = sym (filter-append p xs ys) ∙ e in (left_empty (filter p xs) (filter p ys) parts, right_empty (filter p xs) (filter p ys) parts)
+
+pub none_passes_of : {A B : Type 0} (p : B → Bool) (f : A → List B) (xs : List A) → filter p (flat_map f xs) ≡ []
+    → (k : ℕ) (x : A) → slice_get xs k ≡ Some x → filter p (f x) ≡ []
+none_passes_of p f [] e k x got = cc
+none_passes_of p f (y ∷ ys) e zero x got = let same : y ≡ x = cc in ap (λ z. filter p (f z)) (sym same) ∙ (none_passes_in p (f y) (flat_map f ys) e).0
+none_passes_of p f (y ∷ ys) e (suc k) x got = none_passes_of p f ys (none_passes_in p (f y) (flat_map f ys) e).1 k x got
+
+pub all_fail : {A : Type 0} (p : A → Bool) (xs : List A) → filter p xs ≡ [] → All (λ x. p x ≡ false) xs
+all_fail p xs e k d low = none_passes p xs e k (get_or xs k d) (slice_get-get_or xs k d low)
+
+pub all_of_viewed : {A B : Type 0} (P : B → Type 0) (f : A → B) (xs : List A) → All P (map f xs) → All (λ x. P (f x)) xs
+all_of_viewed P f xs all k d low = subst P (get_or-map f xs k d (f d) low) (all k (f d) (let l : length (map f xs) ≡ length xs = length-map xs f in omega (arith, l, low)))

@@ -3,6 +3,7 @@ use Rattle.std.proofs.Common.{◌≡◌, ℕ, zero, suc, ◌+◌, ◌*◌, ◌^�
 use Rattle.std.specs.List.{flat_map, cons_option}
 use Rattle.std.proofs.lemmas.List.{length-map, length-append, get_or-map}
 use Rattle.std.proofs.lemmas.List.Elements.{All-append, All-cons, All-head, All-tail, All-map, All-nil, All-weaker}
+use Rattle.bao_types.specs.declared.range.ByteRange.{ByteRange}
 use Rattle.bao_types.specs.ByteRange.{end}
 use Rattle.bao_types.specs.Shape.{port_range}
 use Rattle.bao_config.specs.declared.config.PortPlace.{PortPlace}
@@ -63,34 +64,48 @@ made_fits : {A B : Type 0} (Fits : A → Type 0) (Made : B → Type 0) (f : A �
 made_fits Fits Made f each None fit = tt
 made_fits Fits Made f each (Some x) fit = each x fit
 
+-- what holds of the ranges of regions, ports, shared memories and guards holds of those of the map
+pub map_all : (P : ByteRange → Type 0) (cfg : ConfigData) (vm : VmData) → All (λ region. P region.range) vm.regions
+    → All (λ port. P (port_range port.base)) cfg.platform.ports → All (λ shmem. P shmem.range) cfg.shmems → All P vm.guards
+    → All (λ entry. P entry.range) (map_of cfg vm)
+map_all P cfg vm regions ports shmems guards =
+    All-append (λ (entry : MapEntry). P entry.range) (map region_entry vm.regions ++ filter_map (dev_entry cfg) vm.devs ++ filter_map (ipc_entry cfg) vm.ipcs) (map guard_entry vm.guards)
+    (All-append (λ (entry : MapEntry). P entry.range) (map region_entry vm.regions ++ filter_map (dev_entry cfg) vm.devs) (filter_map (ipc_entry cfg) vm.ipcs)
+    (All-append (λ (entry : MapEntry). P entry.range) (map region_entry vm.regions) (filter_map (dev_entry cfg) vm.devs)
+    (All-map (λ (entry : MapEntry). P entry.range) region_entry vm.regions regions)
+    (picked_fit (λ (entry : MapEntry). P entry.range) (dev_entry cfg) of_dev vm.devs))
+    (picked_fit (λ (entry : MapEntry). P entry.range) (ipc_entry cfg) of_ipc vm.ipcs))
+    (All-map (λ (entry : MapEntry). P entry.range) guard_entry vm.guards guards)
+  where
+    of_dev : (dev : Dev) → IfSome (dev_entry cfg dev) (λ (entry : MapEntry). P entry.range)
+    of_dev dev =
+        made_fits (λ port. P (port_range port.base)) (λ (entry : MapEntry). P entry.range) (λ port. record { range = port_range port.base; kind = Port dev.port }) (λ port good. good)
+        (find (λ port. port.id == dev.port) cfg.platform.ports)
+        (found_fits (λ port. P (port_range port.base)) (λ port. port.id == dev.port) cfg.platform.ports ports)
+
+    of_ipc : (ipc : IpcData) → IfSome (ipc_entry cfg ipc) (λ (entry : MapEntry). P entry.range)
+    of_ipc ipc =
+        made_fits (λ shmem. P shmem.range) (λ (entry : MapEntry). P entry.range) (λ shmem. record { range = shmem.range; kind = Window ipc.shmem ipc.write }) (λ shmem good. good)
+        (slice_get cfg.shmems ipc.shmem) (got_fits (λ shmem. P shmem.range) cfg.shmems ipc.shmem shmems)
+
 abbrev pub EntryFits : MapEntry → Type 0
 EntryFits entry = RangeFits entry.range
+
+port_fits : (port : PortPlace) → PortFits port → RangeFits (port_range port.base)
+port_fits port fit = record { base = fit.base; size = record { least = lit≤ tt; most = lit≤ tt; multiple = refl } }
 
 -- each entry of the map of a VM is a range that the key table allows
 pub map_fits : (cfg : ConfigData) (vm : VmData) → ConfigFits cfg → VmFits vm → All EntryFits (map_of cfg vm)
 map_fits cfg vm fits vm_fits =
-    All-append EntryFits (map region_entry vm.regions ++ filter_map (dev_entry cfg) vm.devs ++ filter_map (ipc_entry cfg) vm.ipcs) (map guard_entry vm.guards)
-    (All-append EntryFits (map region_entry vm.regions ++ filter_map (dev_entry cfg) vm.devs) (filter_map (ipc_entry cfg) vm.ipcs)
-    (All-append EntryFits (map region_entry vm.regions) (filter_map (dev_entry cfg) vm.devs)
-    (All-map EntryFits region_entry vm.regions (All-weaker RegionFits (λ region. RangeFits region.range) (λ region fit. fit.range) vm.regions vm_fits.regions.each))
-    (picked_fit EntryFits (dev_entry cfg) dev_fits vm.devs))
-    (picked_fit EntryFits (ipc_entry cfg) ipc_fits vm.ipcs))
-    (All-map EntryFits guard_entry vm.guards vm_fits.guards.each)
-  where
-    port_fits : (id : ℕ) (port : PortPlace) → PortFits port → EntryFits (record { range = port_range port.base; kind = Port id })
-    port_fits id port fit = record { base = fit.base; size = record { least = lit≤ tt; most = lit≤ tt; multiple = refl } }
-
-    dev_fits : (dev : Dev) → IfSome (dev_entry cfg dev) EntryFits
-    dev_fits dev =
-        made_fits PortFits EntryFits (λ port. record { range = port_range port.base; kind = Port dev.port }) (port_fits dev.port)
-        (find (λ port. port.id == dev.port) cfg.platform.ports) (found_fits PortFits (λ port. port.id == dev.port) cfg.platform.ports fits.platform.ports.each)
-
-    ipc_fits : (ipc : IpcData) → IfSome (ipc_entry cfg ipc) EntryFits
-    ipc_fits ipc =
-        made_fits ShmemFits EntryFits (λ shmem. record { range = shmem.range; kind = Window ipc.shmem ipc.write }) (λ shmem fit. fit.range)
-        (slice_get cfg.shmems ipc.shmem) (got_fits ShmemFits cfg.shmems ipc.shmem fits.shmems.each)
+    map_all RangeFits cfg vm (All-weaker RegionFits (λ region. RangeFits region.range) (λ region fit. fit.range) vm.regions vm_fits.regions.each)
+    (All-weaker PortFits (λ port. RangeFits (port_range port.base)) port_fits cfg.platform.ports fits.platform.ports.each)
+    (All-weaker ShmemFits (λ shmem. RangeFits shmem.range) (λ shmem fit. fit.range) cfg.shmems fits.shmems.each) vm_fits.guards.each
 
 -- so no bound of it is beyond 64 bits
 pub map_ends : (cfg : ConfigData) (vm : VmData) → ConfigFits cfg → VmFits vm → All (λ entry. end entry.range < 2 ^ 64) (map_of cfg vm)
 map_ends cfg vm fits vm_fits =
     All-weaker EntryFits (λ entry. end entry.range < 2 ^ 64) (λ entry fit. omega (arith, fit.base.most, fit.size.most)) (map_of cfg vm) (map_fits cfg vm fits vm_fits)
+
+-- the VM at a place is one that the key table allows
+pub vm_fits : (cfg : ConfigData) (v : ℕ) (vm : VmData) → ConfigFits cfg → slice_get cfg.vms v ≡ Some vm → VmFits vm
+vm_fits cfg v vm fits is = let fit = got_fits VmFits cfg.vms v fits.vms.each in subst (λ o. IfSome o VmFits) is fit

@@ -7,3 +7,5 @@ pub mod Least
 pub mod Bytes
 pub mod Kept
 pub mod Apart
+pub mod Once
+pub mod Places
