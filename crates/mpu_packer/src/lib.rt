@@ -6,8 +6,10 @@
 
 mod class;
 mod entries;
+mod law;
 mod packing;
 mod runs;
 
+pub use law::laws_of_packing;
 pub use packing::{PackError, pack};
 pub use entries::Plan;
