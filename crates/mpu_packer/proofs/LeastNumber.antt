@@ -14,25 +14,28 @@ use Rattle.mpu_packer.specs.Packing.{HasBits, IsRealised, Realises, attribute_of
 use Rattle.mpu_packer.specs.Laws.{HasNoFewer}
 
 -- the bits of an entry tell the class
-same_write : (one other : Bool) → (if one then 1 else 3) ≡ (if other then 1 else 3) → one ≡ other
+abbrev number_if : Bool → ℕ → ℕ → ℕ
+number_if b yes' no' = if b then yes' else no'
+
+same_write : (one other : Bool) → number_if one 1 3 ≡ number_if other 1 3 → one ≡ other
 same_write true true e = refl
 same_write false false e = refl
 same_write true false e = absurd (omega arith)
 same_write false true e = absurd (omega arith)
 
-same_exec : (one other : Bool) → (if one then 0 else 1) ≡ (if other then 0 else 1) → one ≡ other
+same_exec : (one other : Bool) → number_if one 0 1 ≡ number_if other 0 1 → one ≡ other
 same_exec true true e = refl
 same_exec false false e = refl
 same_exec true false e = absurd (omega arith)
 same_exec false true e = absurd (omega arith)
 
-same_port : (one other : Bool) → (if one then 1 else 0) ≡ (if other then 1 else 0) → one ≡ other
+same_port : (one other : Bool) → number_if one 1 0 ≡ number_if other 1 0 → one ≡ other
 same_port true true e = refl
 same_port false false e = refl
 same_port true false e = absurd (omega arith)
 same_port false true e = absurd (omega arith)
 
-not_hyp : (write : Bool) → 0 ≡ (if write then 1 else 3) → ⊥
+not_hyp : (write : Bool) → number_if write 1 3 ≡ 0 → ⊥
 not_hyp true e = omega arith
 not_hyp false e = omega arith
 
@@ -40,9 +43,9 @@ same_class : (one other : Class) (entry : Region) → one ≢ Nothing → other 
 same_class Nothing other entry something also bits its = absurd (something refl)
 same_class Hyp Nothing entry something also bits its = absurd (also refl)
 same_class Hyp Hyp entry something also bits its = refl
-same_class Hyp (Guest write exec port) entry something also bits its = absurd (not_hyp write (sym bits.permission ∙ its.permission))
+same_class Hyp (Guest write exec port) entry something also bits its = absurd (not_hyp write (sym its.permission ∙ bits.permission))
 same_class (Guest write exec port) Nothing entry something also bits its = absurd (also refl)
-same_class (Guest write exec port) Hyp entry something also bits its = absurd (not_hyp write (sym its.permission ∙ bits.permission))
+same_class (Guest write exec port) Hyp entry something also bits its = absurd (not_hyp write (sym bits.permission ∙ its.permission))
 same_class (Guest write exec port) (Guest write' exec' port') entry something also bits its =
     let w = same_write write write' (sym bits.permission ∙ its.permission) in
     let x = same_exec exec exec' (sym bits.execute_never ∙ its.execute_never) in
