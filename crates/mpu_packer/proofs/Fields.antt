@@ -1,19 +1,18 @@
 -- The entries of aligned runs, field by field, and which of them contain a byte.
-use Rattle.std.proofs.Common.{◌≡◌, ◌≢◌, ℕ, ◌+◌, ◌-◌, ◌*◌, ◌/◌, ◌%◌, ◌^◌, ◌<◌, ◌≤◌, ◌==◌, nat_le, nat_lt, ◌&&◌, Bool, true, false, cond, ◌⊎◌, inl, inr, List, [], ◌∷◌, map, filter, All, refl, sym, subst, ap, ◌∙◌, arith}
-use Rattle.std.specs.Prelude.{IsTrue}
+use Rattle.std.proofs.Common.{◌≡◌, ◌≢◌, ℕ, ◌+◌, ◌-◌, ◌*◌, ◌%◌, ◌^◌, ◌<◌, ◌≤◌, nat_le, nat_lt, ◌&&◌, Bool, true, false, cond, ◌⊎◌, inl, inr, List, [], ◌∷◌, map, filter, All, refl, sym, subst, ap, ◌∙◌, arith}
 use Rattle.std.proofs.lemmas.Bool.{cases_lt, eq-eqb}
 use Rattle.std.proofs.lemmas.Bool.Decides.{nat_tests}
 use Rattle.std.proofs.lemmas.List.Elements.{All-filter, All-head, All-tail}
 use Rattle.bao_types.specs.declared.access.Class.{Class}
 use Rattle.bao_types.specs.declared.access.Class.TheVariants.{Nothing, Hyp, Guest}
 use Rattle.bao_types.specs.declared.region.Region.{Region}
-use Rattle.bao_types.specs.ByteRange.{address_space_end, end, is_within}
+use Rattle.bao_types.specs.ByteRange.{end, is_within}
 use Rattle.bao_types.specs.Bits.{field}
 use Rattle.bao_types.specs.Region.{first_byte, last_byte, is_enabled, is_match, matching_regions}
 use Rattle.bao_types.proofs.Ranges.{is_within-between}
 use Rattle.region_list.specs.declared.run.Run.{Run}
 use Rattle.region_list.specs.Layers.{IsInSpace}
-use Rattle.region_list.specs.Runs.{AreRunsFrom, IsMaximalRun}
+use Rattle.region_list.specs.Runs.{AreRunsFrom}
 use Rattle.mpu_packer.specs.Packing.{HasBits, IsRealised, attribute_of, entry_of, execute_never_of, permission_of}
 use Rattle.mpu_packer.proofs.Granules.{IsAligned}
 
@@ -87,7 +86,7 @@ module _ (run : Run) (aligned : IsAligned run) (in_space : IsInSpace run.range) 
   pub matches_its_bytes : (at : ℕ) → is_match (entry_of run) at ≡ is_within run.range at
   matches_its_bytes at =
       let first : first_byte (entry_of run) ≡ run.range.base =
-          base_field run.range.base (permission_of run.class) (execute_never_of run.class) aligned.base base_low (permission_low run.class) (execute_never_low run.class) in
+      base_field run.range.base (permission_of run.class) (execute_never_of run.class) aligned.base base_low (permission_low run.class) (execute_never_low run.class) in
       let limit = limit_field (end run.range - 64) (attribute_of run.class) last_aligned last_low (attribute_low run.class) in
       let last : last_byte (entry_of run) ≡ end run.range - 64 + 63 = ap (λ n. n + 63) limit in
       let on : is_enabled (entry_of run) ≡ true = eq-eqb _ 1 (enable_field (end run.range - 64) (attribute_of run.class) last_aligned last_low (attribute_low run.class)) in

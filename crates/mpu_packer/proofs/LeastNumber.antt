@@ -6,11 +6,11 @@ use Rattle.bao_types.specs.declared.access.Class.{Class}
 use Rattle.bao_types.specs.declared.access.Class.TheVariants.{Nothing, Hyp, Guest}
 use Rattle.bao_types.specs.declared.region.Region.{Region}
 use Rattle.bao_types.specs.ByteRange.{end}
-use Rattle.bao_types.specs.Region.{access_permission, attribute_index, covers, first_byte, is_enabled, is_match, last_byte, matching_regions}
+use Rattle.bao_types.specs.Region.{covers, first_byte, is_enabled, is_match, last_byte, matching_regions}
 use Rattle.bao_types.proofs.Ranges.{is_within-between}
 use Rattle.region_list.specs.declared.run.Run.{Run}
-use Rattle.region_list.specs.Runs.{AreMaximalRuns, AreRunsFrom, IsMaximalRun}
-use Rattle.mpu_packer.specs.Packing.{HasBits, IsRealised, Realises, attribute_of, enabled_count, execute_never_of, permission_of}
+use Rattle.region_list.specs.Runs.{AreRunsFrom, IsMaximalRun}
+use Rattle.mpu_packer.specs.Packing.{HasBits, IsRealised, Realises, enabled_count}
 use Rattle.mpu_packer.specs.Laws.{HasNoFewer}
 
 -- the bits of an entry tell the class
@@ -194,7 +194,7 @@ module _ (class_of : ℕ → Class) (entries : List Region) (realises : Realises
       not_earlier : first_byte one.0 < run.range.base → ⊥
       not_earlier less =
           let at : (place : ℕ) × (slice_get (matching_regions entries (run.range.base - 1)) place ≡ Some one.0) =
-              filter_keeps (λ region. is_match region (run.range.base - 1)) entries kept.0 one.0 kept.1 (before_too less) in
+          filter_keeps (λ region. is_match region (run.range.base - 1)) entries kept.0 one.0 kept.1 (before_too less) in
           by_class (class_of (run.range.base - 1)) refl (realises (run.range.base - 1)) at less
         where
           by_class : (class : Class) → class_of (run.range.base - 1) ≡ class → IsRealised (class_of (run.range.base - 1)) (matching_regions entries (run.range.base - 1))

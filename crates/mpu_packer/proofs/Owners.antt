@@ -1,8 +1,7 @@
 -- What ties the code's lists to the classes of a core.
-use Rattle.std.proofs.Common.{◌≡◌, ℕ, zero, suc, ◌+◌, ◌%◌, ◌<◌, nat_le, nat_lt, ◌&&◌, Bool, true, false, cond, List, [], ◌∷◌, map, find, get_or, length, slice_get, Option, None, Some, option_map, if◌then◌else◌, refl, sym, subst, ap, ◌∙◌}
+use Rattle.std.proofs.Common.{◌≡◌, ℕ, suc, ◌+◌, ◌%◌, ◌<◌, Bool, true, false, cond, List, [], ◌∷◌, map, find, get_or, length, slice_get, Option, None, Some, option_map, if◌then◌else◌, refl, sym, subst, ap, ◌∙◌}
 use Rattle.std.proofs.lemmas.Option.{slice_get-get_or, slice_get-map, slice_get_read}
-use Rattle.bao_types.specs.declared.access.Class.{Class}
-use Rattle.bao_types.specs.declared.access.Class.TheVariants.{Nothing, Hyp, Guest}
+use Rattle.bao_types.specs.declared.access.Class.TheVariants.{Hyp}
 use Rattle.bao_types.specs.declared.range.ByteRange.{ByteRange}
 use Rattle.bao_types.specs.ByteRange.{is_within}
 use Rattle.bao_config.specs.declared.config.Config.{Config}
@@ -10,7 +9,7 @@ use Rattle.bao_config.specs.declared.config.Vm.{Vm}
 use Rattle.bao_config.specs.Config.{config_data}
 use Rattle.bao_config.specs.Data.{ConfigData, VmData, vm_data}
 use Rattle.bao_config.specs.Fits.{ConfigFits}
-use Rattle.bao_wellformed.specs.Map.{class_of, grant, guest_class, has_core, kind_at, owner}
+use Rattle.bao_wellformed.specs.Map.{class_of, grant, guest_class, has_core, owner}
 use Rattle.bao_wellformed.proofs.Bytes.{within_granule}
 use Rattle.bao_wellformed.proofs.Places.{maps_granular}
 use Rattle.region_list.specs.Ranges.{RangesData, class_of_byte, IsLaidOver}

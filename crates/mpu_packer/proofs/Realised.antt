@@ -1,13 +1,11 @@
 -- The entries of the maximal runs give each byte as its class says.
-use Rattle.std.proofs.Common.{◌≡◌, ◌≢◌, ℕ, ◌+◌, ◌%◌, ◌<◌, List, [], ◌∷◌, map, All, refl, sym, subst, ap, ◌∙◌, arith}
+use Rattle.std.proofs.Common.{◌≡◌, ℕ, ◌+◌, ◌%◌, ◌<◌, List, map, All, sym, subst, ap, ◌∙◌, arith}
 use Rattle.bao_types.specs.declared.access.Class.{Class}
-use Rattle.bao_types.specs.declared.access.Class.TheVariants.{Nothing}
-use Rattle.bao_types.specs.declared.region.Region.{Region}
 use Rattle.bao_types.specs.Region.{matching_regions}
 use Rattle.region_list.specs.declared.run.Run.{Run}
 use Rattle.region_list.specs.Layers.{AreInSpace, IsInSpace}
 use Rattle.region_list.specs.Runs.{AreMaximalRuns}
-use Rattle.mpu_packer.specs.Packing.{HasBits, IsRealised, Realises, entry_of}
+use Rattle.mpu_packer.specs.Packing.{IsRealised, Realises, entry_of}
 use Rattle.mpu_packer.proofs.Fields.{IsHeld, In, Out, has_bits, held_all, holding, matching_runs, one_held, realised}
 use Rattle.mpu_packer.proofs.Granules.{IsAligned, all_aligned}
 

@@ -2,7 +2,7 @@
 --
 -- AP, XN and the attribute index of an entry follow the class of its bytes: AP 0 is for EL2 alone, 1 admits guests to read and
 -- write, 3 to read; attribute 1 is that of device ports.
-use Rattle.std.specs.Prelude.{◌≡◌, ℕ, ◌+◌, ◌-◌, ◌*◌, ◌≤◌, ◌<◌, Bool, true, false, if◌then◌else◌, List, [], ◌∷◌, map, length, filter, ⊤}
+use Rattle.std.specs.Prelude.{◌≡◌, ℕ, ◌+◌, ◌-◌, ◌*◌, if◌then◌else◌, List, [], ◌∷◌, length, filter}
 use Rattle.bao_types.specs.declared.access.Class.{Class}
 use Rattle.bao_types.specs.declared.access.Class.TheVariants.{Nothing, Hyp, Guest}
 use Rattle.bao_types.specs.declared.region.Region.{Region}

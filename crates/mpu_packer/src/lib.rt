@@ -10,6 +10,6 @@ mod law;
 mod packing;
 mod runs;
 
+pub use entries::Plan;
 pub use law::laws_of_packing;
 pub use packing::{PackError, pack};
-pub use entries::Plan;

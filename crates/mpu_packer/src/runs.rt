@@ -28,7 +28,12 @@ pub(crate) fn runs_of(alloc: Global, checked: &Checked, core: u8) -> Result<Vec<
 }
 
 /// Gives each byte the class that it has for the VM of the core.
-fn insert_guest(alloc: Global, ranges: &mut Ranges, checked: &Checked, core: u8) -> Result<(), OutOfMemory>
+fn insert_guest(
+    alloc: Global,
+    ranges: &mut Ranges,
+    checked: &Checked,
+    core: u8,
+) -> Result<(), OutOfMemory>
     requires { (at : ℕ) → class_of_byte ranges.old at ≡ Class.Nothing }
     ensures { let cfg = checked_data checked.now in
         OnOk result ((at : ℕ) → class_of_byte ranges.new at ≡ guest_class cfg (owner cfg core) at) }

@@ -1,8 +1,6 @@
-use Rattle.std.proofs.Common.{◌≡◌, ◌<◌, ◌≤◌, ◌∙◌, ℕ, List, All, Some, length, map, get_or, slice_get, subst, sym, ap, arith}
+use Rattle.std.proofs.Common.{◌≡◌, ◌≤◌, ◌∙◌, List, All, length, map, get_or, subst, sym, ap, arith}
 use Rattle.std.proofs.lemmas.List.Elements.{All-weaker}
-use Rattle.std.proofs.lemmas.Option.{slice_get-get_or}
 use Rattle.bao_types.specs.declared.region.Region.{Region}
-use Rattle.bao_config.specs.Data.{ConfigData}
 use Rattle.bao_wellformed.specs.Checked.{checked_data}
 use Rattle.bao_wellformed.specs.Map.{class_of}
 use Rattle.region_list.specs.declared.run.Run.{Run}

@@ -17,6 +17,6 @@ insert-requires c =
 pub returns-clause-maximal : goal.returns-clause-maximal
 returns-clause-maximal c =
     let same =
-        laid_is (checked_data c.args.checked.now) c.args.core c.insert_guest.new.ranges c.insert.new.self c.config.result.now.hyp
-        c.in_ok-insert.ensures.ok (ap (λ (cfg : ConfigData). cfg.hyp) c.config.ensures) c.in_ok-insert_guest.ensures in
+    laid_is (checked_data c.args.checked.now) c.args.core c.insert_guest.new.ranges c.insert.new.self c.config.result.now.hyp
+    c.in_ok-insert.ensures.ok (ap (λ (cfg : ConfigData). cfg.hyp) c.config.ensures) c.in_ok-insert_guest.ensures in
     subst (λ (classes : ℕ → Class). IfOk c.runs.result (λ runs. AreMaximalRuns classes runs.items)) (λ i at. same at i) c.runs.ensures.maximal
