@@ -11,20 +11,12 @@ use Rattle.bao_types.specs.declared.access.Access.{Access}
 use Rattle.bao_types.specs.declared.access.Access.TheVariants.{Read, Write, Exec}
 use Rattle.bao_types.specs.declared.access.Verdict.{Verdict}
 use Rattle.bao_types.specs.declared.access.Verdict.TheVariants.{Allow, Translation, Permission}
+pub use Rattle.bao_wellformed.specs.declared.map.Kind.{Kind}
+pub use Rattle.bao_wellformed.specs.declared.map.Kind.TheVariants.{Ram, Port, Window, Hole}
+pub use Rattle.bao_wellformed.specs.declared.map.MapEntry.{MapEntry}
 use Rattle.bao_config.specs.declared.config.MapRegion.{MapRegion}
 use Rattle.bao_config.specs.declared.config.Dev.{Dev}
 use Rattle.bao_config.specs.Data.{ConfigData, VmData, IpcData}
-
--- what a byte is in the map of a VM: memory of its own, a port by its id, a window on a shared memory, or not there
-pub data Kind : Type 0 where
-  Ram : (write exec : Bool) → Kind
-  Port : (id : ℕ) → Kind
-  Window : (shmem : ℕ) (write : Bool) → Kind
-  Hole : Kind
-
-pub record MapEntry : Type 0 where
-  pub range : ByteRange
-  pub kind : Kind
 
 abbrev pub region_entry : MapRegion → MapEntry
 region_entry region = record { range = region.range; kind = Ram region.write region.exec }

@@ -1,5 +1,8 @@
-//! Tests of the reader of configurations, over its public calls: two whole samples, and each row of the key table broken
-//! in kind and in bounds or length. They stand apart from `bao_config` so that they don't have it proved again.
+//! Tests of the crates on configurations, over their public calls: a text is read, its rules are checked, and its cores are
+//! packed.
+//!
+//! The crate has no other code. Its tests stand apart from the crates that they try, since a crate with tests is proved
+//! twice.
 #![tactic(auto)]
 
 #[cfg(test)]
@@ -9,7 +12,11 @@ mod edited;
 #[cfg(test)]
 mod machine;
 #[cfg(test)]
+mod packings;
+#[cfg(test)]
 mod rows;
+#[cfg(test)]
+mod rules;
 #[cfg(test)]
 mod samples;
 #[cfg(test)]

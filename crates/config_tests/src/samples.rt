@@ -1,4 +1,8 @@
-//! The sample configurations.
+//! The sample configurations, and what is made of a change of one.
+
+use bao_config::read_config;
+use bao_wellformed::{CheckError, Checked, Ill, NONE, check};
+use std::alloc::{AllocError, Global};
 
 /// One VM and one port.
 pub(crate) const ONE_VM: &str = r#"version = 1
@@ -58,3 +62,35 @@ regions = [{ base = 0x140000, size = 0x10000, access = "rwx" }]
 devs = [{ port = 1, irq = 40 }]
 ipcs = [{ shmem = 0, access = "rw", irqs = [60, 61] }]
 "#;
+
+/// The sample with each change made: an old text, and the text in its place.
+pub(crate) fn changed(alloc: Global, changes: &[(&str, &str)]) -> Result<String, AllocError> {
+    let mut text = TWO_VMS.to_owned(alloc)?;
+    for (old, new) in changes {
+        text = text.as_str().replace(alloc, *old, new)?;
+    }
+    Ok(text)
+}
+
+/// The text read and checked, where it can be read.
+pub(crate) fn checked(alloc: Global, text: &str) -> Option<Result<Checked, CheckError>> {
+    match read_config(alloc, text.as_bytes()) {
+        Ok(config) => Some(check(alloc, config)),
+        Err(_) => None,
+    }
+}
+
+/// What a refusal prints of a break.
+pub(crate) fn ill_text(alloc: Global, ill: &Ill) -> Result<String, AllocError> {
+    let vm = number_text(alloc, ill.vm)?;
+    let item = number_text(alloc, ill.item)?;
+    format!(in alloc; "rule {} vm {vm} item {item} 0x{:x}+0x{:x} 0x{:x}+0x{:x}",
+        ill.rule, ill.first.base, ill.first.size, ill.second.base, ill.second.size)
+}
+
+fn number_text(alloc: Global, number: u8) -> Result<String, AllocError> {
+    if number == NONE {
+        return "-".to_owned(alloc);
+    }
+    format!(in alloc; "{number}")
+}

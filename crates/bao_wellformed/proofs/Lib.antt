@@ -1,0 +1,11 @@
+pub mod Firsts
+pub mod Fits
+pub mod MapLemmas
+pub mod Walks
+pub mod Empty
+pub mod Least
+pub mod Bytes
+pub mod Kept
+pub mod Apart
+pub mod Once
+pub mod Places

@@ -1,0 +1,10 @@
+use Rattle.std.proofs.Common.{◌≡◌, ℕ, not, nat_le, length, map, drop, filter, slice_get}
+use Rattle.std.specs.List.{enumerate_from}
+use Rattle.bao_config.specs.Config.{config_data}
+use Rattle.bao_wellformed.proofs.vm_rules.CoresExistVmRule.first_break.Given as goal
+
+abbrev pub invariant-loop-item : goal.invariant-loop-item
+invariant-loop-item l =
+    let is_broken : ℕ × ℕ → _ = λ (j, core). nat_le (length l.config.platform.cores.items) core in
+    filter is_broken (enumerate_from l.item (drop l.item l.core-items))
+    ≡ filter is_broken (enumerate_from 0 l.vm.cores.items)

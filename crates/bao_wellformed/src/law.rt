@@ -1,0 +1,27 @@
+ghost use Rattle.bao_wellformed.specs.Laws.{MapsApart, CoresApart, CoresOwned, PortsApart, PlacesOwn, StartsExecutable, MapsGranular, MapsInSpace, HypervisorInSpace, LackingLeast, ClashLeast};
+
+/// The laws by which VMs are apart: a byte that two of them both have is a window of both on one shared memory, and no core
+/// and no port is given to two. The function does nothing; its contract is the laws.
+pub fn laws_of_separation()
+    ensures maps { MapsApart }
+    ensures cores { CoresApart }
+    ensures owners { CoresOwned }
+    ensures ports { PortsApart }
+{}
+
+/// The laws of one VM's map: its place is memory of its own, it starts in memory that it may execute, each 64 bytes are of
+/// one kind, and nothing of it is above 2^48. The function does nothing; its contract is the laws.
+pub fn laws_of_maps()
+    ensures places { PlacesOwn }
+    ensures starts { StartsExecutable }
+    ensures granular { MapsGranular }
+    ensures in_space { MapsInSpace }
+    ensures hypervisor { HypervisorInSpace }
+{}
+
+/// The bytes that rules 20 to 22 name are the least of all that break them, not only of the bounds that are tried. The
+/// function does nothing; its contract is the laws.
+pub fn laws_of_least_bytes()
+    ensures lacking { LackingLeast }
+    ensures clash { ClashLeast }
+{}

@@ -1,0 +1,6 @@
+pub mod Fields
+pub mod Granules
+pub mod LeastNumber
+pub mod Owners
+pub mod Realised
+pub mod Verdicts

@@ -1,0 +1,23 @@
+-- What entries that realise the classes of a core promise.
+use Rattle.std.specs.Prelude.{◌≡◌, ℕ, ◌≤◌, List, length}
+use Rattle.bao_types.specs.declared.access.Access.{Access}
+use Rattle.bao_types.specs.declared.access.Class.{Class}
+use Rattle.bao_types.specs.declared.region.Region.{Region}
+use Rattle.bao_config.specs.Data.{ConfigData}
+use Rattle.bao_wellformed.specs.Map.{by_map, class_of}
+use Rattle.pmsa_stage2.specs.Stage2.{stage2}
+use Rattle.region_list.specs.declared.run.Run.{Run}
+use Rattle.region_list.specs.Runs.{AreMaximalRuns}
+use Rattle.mpu_packer.specs.Packing.{Realises, enabled_count}
+
+-- each access to each byte has the verdict of the map
+abbrev pub GivesTheMap : Type 0
+GivesTheMap =
+    (cfg : ConfigData) (core : ℕ) (entries : List Region) (access : Access) (at : ℕ) → Realises entries (class_of cfg core)
+    → stage2 entries access at ≡ by_map cfg core access at
+
+-- there are no fewer enabled entries than maximal runs, so a plan has the least number of entries
+abbrev pub HasNoFewer : Type 0
+HasNoFewer =
+    (class_of : ℕ → Class) (runs : List Run) (entries : List Region) → AreMaximalRuns class_of runs → Realises entries class_of
+    → length runs ≤ enabled_count entries
