@@ -5,6 +5,7 @@ use crate::samples::{ONE_VM, TWO_VMS};
 use bao_config::{ConfigError, Spot, bounds, is_file_name, is_name, read_config, row};
 use std::alloc::{AllocError, Global};
 use std::process::Abort;
+use std::test::Fail;
 
 /// The path of the spot as a text.
 fn path_text(alloc: Global, spot: Spot) -> Result<String, AllocError> {
@@ -49,6 +50,15 @@ fn samples(rt: HostRuntime) -> Result<(), AllocError> {
     for (text, want) in SAMPLES.as_slice() {
         check(&rt, rt.alloc(), text.as_bytes(), want)?;
     }
+    Ok(())
+}
+
+#[test]
+fn equal_records(rt: HostRuntime) -> Result<(), Fail> {
+    let one = read_config(rt.alloc(), ONE_VM.as_bytes())?;
+    let same = read_config(rt.alloc(), ONE_VM.as_bytes())?;
+    let two = read_config(rt.alloc(), TWO_VMS.as_bytes())?;
+    assert_eq!(rt; [one == same, one == two], [true, false]);
     Ok(())
 }
 
