@@ -1,5 +1,5 @@
 -- What the bounds of a configuration say of its parts.
-use Rattle.std.proofs.Common.{◌≡◌, ℕ, zero, suc, ◌+◌, ◌*◌, ◌^◌, ◌<◌, ◌≤◌, ◌==◌, Bool, true, false, cond, List, [], ◌∷◌, ◌++◌, map, filter_map, find, length, get_or, slice_get, All, Option, Some, None, IfSome, option_map, refl, subst, sym, ap, ◌∙◌, arith, lit≤}
+use Rattle.std.proofs.Common.{◌≡◌, ℕ, zero, suc, ◌*◌, ◌^◌, ◌<◌, ◌≤◌, ◌==◌, Bool, true, false, cond, List, [], ◌∷◌, ◌++◌, map, filter_map, find, length, get_or, slice_get, All, Option, Some, None, IfSome, option_map, refl, subst, sym, ap, ◌∙◌, arith, lit≤}
 use Rattle.std.specs.List.{flat_map, cons_option}
 use Rattle.std.proofs.lemmas.List.{length-map, length-append, get_or-map}
 use Rattle.std.proofs.lemmas.List.Elements.{All-append, All-cons, All-head, All-tail, All-map, All-nil, All-weaker}
@@ -34,8 +34,14 @@ few_numbers Cores vm fits = omega (arith, fits.cores.short_enough)
 few_numbers Ports vm fits = omega (arith, length-map vm.devs (λ dev. dev.port), fits.devs.short_enough)
 few_numbers Shmems vm fits = omega (arith, length-map vm.ipcs (λ ipc. ipc.shmem), fits.ipcs.short_enough)
 few_numbers Irqs vm fits =
-    omega (arith, length-append (map (λ dev. dev.irq) vm.devs) (flat_map (λ ipc. ipc.irqs) vm.ipcs), length-map vm.devs (λ dev. dev.irq),
-    fits.devs.short_enough, few_irqs vm.ipcs fits.ipcs.each, fits.ipcs.short_enough)
+    omega (
+      arith,
+      length-append (map (λ dev. dev.irq) vm.devs) (flat_map (λ ipc. ipc.irqs) vm.ipcs),
+      length-map vm.devs (λ dev. dev.irq),
+      fits.devs.short_enough,
+      few_irqs vm.ipcs fits.ipcs.each,
+      fits.ipcs.short_enough,
+    )
 
 -- what is picked fits, if whatever may be picked does
 picked_fit : {A B : Type 0} (Fits : B → Type 0) (f : A → Option B) → ((x : A) → IfSome (f x) Fits) → (xs : List A) → All Fits (filter_map f xs)

@@ -1,12 +1,11 @@
 -- Nothing is claimed by two VMs.
-use Rattle.std.proofs.Common.{◌≡◌, ℕ, ◌<◌, ◌==◌, Bool, true, false, ◌⊎◌, inl, inr, List, [], slice_get, Some, refl, sym, ap, ◌∙◌, map, arith, ◌+◌}
-use Rattle.std.specs.List.{enumerate_from, flat_map, list_any}
+use Rattle.std.proofs.Common.{◌≡◌, ℕ, ◌<◌, ◌==◌, Bool, true, false, ◌⊎◌, inl, inr, List, [], slice_get, Some, refl, sym, ap, ◌∙◌, arith, ◌+◌}
+use Rattle.std.specs.List.{list_any}
 use Rattle.std.proofs.lemmas.Bool.{cases_order, eq-eqb, eqb-true}
 use Rattle.bao_config.specs.Data.{ConfigData, VmData}
 use Rattle.bao_wellformed.specs.declared.claim.Claim.{Claim}
 use Rattle.bao_wellformed.specs.declared.claim.Claimed.{Claimed}
 use Rattle.bao_wellformed.specs.declared.claim.Claimed.TheVariants.{Cores, Ports}
-use Rattle.bao_wellformed.specs.declared.ill.Ill.{Ill}
 use Rattle.bao_wellformed.specs.Break.{pairs, indexed}
 use Rattle.bao_wellformed.specs.Claims.{claims, claims_of_vm, numbers_of}
 use Rattle.bao_wellformed.specs.Map.{has_core}

@@ -1,5 +1,5 @@
 -- What a well-formed configuration promises, in terms of its data and of the maps of its VMs.
-use Rattle.std.specs.Prelude.{◌≡◌, ◌≢◌, ◌⊎◌, ℕ, ◌+◌, ◌%◌, ◌<◌, ◌≤◌, Bool, true, false, IsTrue, IsFalse, List, [], ◌∷◌, ◌++◌, All, Contains, Option, Some, None, slice_get, ◌==◌}
+use Rattle.std.specs.Prelude.{◌≡◌, ◌≢◌, ℕ, ◌+◌, ◌%◌, ◌<◌, ◌≤◌, Bool, true, false, IsTrue, List, All, Option, Some, None, slice_get, ◌==◌}
 use Rattle.std.specs.List.{list_any, position_from}
 use Rattle.bao_types.specs.declared.range.ByteRange.{ByteRange}
 use Rattle.bao_types.specs.ByteRange.{address_space_end, end, is_within}
@@ -8,7 +8,6 @@ use Rattle.bao_config.specs.Fits.{ConfigFits}
 use Rattle.bao_wellformed.specs.declared.claim.Claimed.TheVariants.{Ports}
 use Rattle.bao_wellformed.specs.Map.{MapEntry, map_of, kind_at, has_core}
 use Rattle.bao_wellformed.specs.Claims.{numbers_of}
-use Rattle.bao_wellformed.specs.Rules.{distributor, redistributors}
 use Rattle.bao_wellformed.specs.ByteRules.{least_lacking, least_clash, is_lacking, is_clash, is_ram, is_present, first_instruction, kind_in, shmem_of}
 use Rattle.bao_wellformed.specs.WellFormed.{IsWellFormed}
 
