@@ -16,7 +16,7 @@ find_alike p q (x ∷ xs) all =
     ap (λ b. cond b (Some x) (find p xs)) (All-head (λ x. p x ≡ q x) x xs all)
     ∙ ap (λ rest. cond (q x) (Some x) rest) (find_alike p q xs (All-tail (λ x. p x ≡ q x) x xs all))
 
-all_reversed : {A : Type 0} (P : A → Type 0) (xs : List A) → All P xs → All P (reverse xs)
+pub all_reversed : {A : Type 0} (P : A → Type 0) (xs : List A) → All P xs → All P (reverse xs)
 all_reversed P [] all = All-nil P
 all_reversed P (x ∷ xs) all =
     subst (All P) (sym (reverse-append (x ∷ []) xs))

@@ -9,3 +9,4 @@ pub mod Kept
 pub mod Apart
 pub mod Once
 pub mod Places
+pub mod Absent
