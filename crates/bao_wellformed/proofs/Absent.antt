@@ -1,13 +1,12 @@
 -- The hypervisor's range and the frames of the interrupt controller are in no map.
-use Rattle.std.proofs.Common.{◌≡◌, ℕ, ◌+◌, ◌<◌, ◌≤◌, ◌==◌, nat_le, nat_lt, min, max, ◌⊎◌, inl, inr, Bool, true, false, not, cond, ◌&&◌, List, [], ◌∷◌, ◌++◌, map, filter, filter_map, find, get_or, slice_get, reverse, length, All, Option, Some, None, IfSome, option_map, refl, sym, subst, ap, ◌∙◌, arith, suc, if◌then◌else◌}
-use Rattle.std.specs.List.{list_any}
-use Rattle.std.proofs.lemmas.Bool.{and_parts, false_from_ne_true, not-false}
+use Rattle.std.proofs.Common.{◌≡◌, ℕ, ◌+◌, ◌<◌, ◌==◌, inl, inr, Bool, true, false, not, cond, List, [], ◌∷◌, ◌++◌, map, filter_map, find, get_or, slice_get, reverse, length, All, Some, IfSome, refl, sym, subst, ap, ◌∙◌, arith, suc}
+use Rattle.std.proofs.lemmas.Bool.{false_from_ne_true, not-false}
 use Rattle.std.proofs.lemmas.Bool.Decides.{nat_tests}
 use Rattle.std.proofs.lemmas.List.Elements.{All-append, All-head, All-map, All-tail, All-weaker}
 use Rattle.std.proofs.lemmas.Option.{slice_get-get_or, slice_get_within}
 use Rattle.std.proofs.lemmas.List.{length-map}
 use Rattle.bao_types.specs.declared.range.ByteRange.{ByteRange}
-use Rattle.bao_types.specs.ByteRange.{end, is_within, lies_in, overlaps}
+use Rattle.bao_types.specs.ByteRange.{is_within, lies_in, overlaps}
 use Rattle.bao_types.specs.Shape.{port_range}
 use Rattle.bao_config.specs.declared.config.PortPlace.{PortPlace}
 use Rattle.bao_config.specs.declared.config.Dev.{Dev}
@@ -16,11 +15,10 @@ use Rattle.bao_wellformed.specs.declared.piece.Piece.{Piece}
 use Rattle.bao_wellformed.specs.Break.{indexed, pairs}
 use Rattle.bao_wellformed.specs.Map.{MapEntry, Port, Window, map_of, region_entry, dev_entry, ipc_entry, guard_entry, kind_at, kind_of}
 use Rattle.bao_wellformed.specs.Rules.{are_too_near, distributor, frame, lies_in_a_bank, pieces, plain, redistributors, regions_of_the_hypervisor, regions_outside}
-use Rattle.bao_wellformed.specs.ByteRules.{is_present, kind_in}
+use Rattle.bao_wellformed.specs.ByteRules.{is_present}
 use Rattle.bao_wellformed.specs.Laws.{IsVm, FramesAbsent, HypervisorAbsent}
-use Rattle.bao_wellformed.specs.WellFormed.{IsWellFormed}
 use Rattle.bao_wellformed.proofs.Bytes.{all_reversed}
-use Rattle.bao_wellformed.proofs.Empty.{all_fail, any_got, indexed_got, is_pair, left_got, map_empty, map_got, none_in_each, none_passes, right_got}
+use Rattle.bao_wellformed.proofs.Empty.{all_fail, any_got, indexed_got, is_pair, left_got, map_empty, map_got, none_in_each, none_passes}
 use Rattle.bao_wellformed.proofs.Fits.{found_fits, got_fits, made_fits, picked_fit}
 use Rattle.bao_wellformed.proofs.Kept.{IsKept, kept}
 

@@ -10,3 +10,4 @@ pub mod Apart
 pub mod Once
 pub mod Places
 pub mod Absent
+pub mod Alone

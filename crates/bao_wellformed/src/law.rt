@@ -1,12 +1,13 @@
-ghost use Rattle.bao_wellformed.specs.Laws.{MapsApart, CoresApart, CoresOwned, PortsApart, PlacesOwn, StartsExecutable, MapsGranular, HypervisorAbsent, FramesAbsent, MapsInSpace, HypervisorInSpace, LackingLeast, ClashLeast};
+ghost use Rattle.bao_wellformed.specs.Laws.{AloneWellFormed, MapsApart, CoresApart, CoresOwned, PortsApart, PlacesOwn, StartsExecutable, MapsGranular, HypervisorAbsent, FramesAbsent, MapsInSpace, HypervisorInSpace, LackingLeast, ClashLeast};
 
-/// The laws by which VMs are apart: a byte that two of them both have is a window of both on one shared memory, and no core
-/// and no port is given to two. The function does nothing; its contract is the laws.
+/// The laws by which VMs are apart: a byte that two of them both have is a window of both on one shared memory, no core
+/// and no port is given to two, and each VM alone makes a well-formed configuration. The function does nothing; its contract is the laws.
 pub fn laws_of_separation()
     ensures maps { MapsApart }
     ensures cores { CoresApart }
     ensures owners { CoresOwned }
     ensures ports { PortsApart }
+    ensures alone { AloneWellFormed }
 {}
 
 /// The laws of one VM's map: its place is memory of its own, it starts in memory that it may execute, each 64 bytes are of
