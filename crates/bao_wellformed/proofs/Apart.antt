@@ -1,21 +1,15 @@
 -- What rules 11, 15, 20 to 22 say of VMs and bytes.
-use Rattle.std.proofs.Common.{◌≡◌, ◌≢◌, ℕ, ◌+◌, ◌<◌, ◌==◌, Bool, true, false, not, ◌&&◌, ◌||◌, ◌⊎◌, inl, inr, List, [], ◌∷◌, ◌++◌, slice_get, suc, Option, Some, None, refl, sym, subst, ap, ◌∙◌, arith}
-use Rattle.std.specs.List.{enumerate_from, flat_map, list_any}
-use Rattle.std.proofs.lemmas.Bool.{or_parts, eq-eqb, eqb-true, cases_order, cases_eq}
+use Rattle.std.proofs.Common.{◌≡◌, ℕ, ◌<◌, ◌==◌, Bool, true, false, not, ◌&&◌, ◌⊎◌, inl, inr, List, ◌++◌, suc, Option, Some, None, refl, sym, subst, ap, ◌∙◌}
+use Rattle.std.proofs.lemmas.Bool.{or_parts, eqb-true, cases_order}
 use Rattle.std.proofs.lemmas.List.Folds.{list_any-append}
 use Rattle.bao_config.specs.Data.{ConfigData, VmData}
 use Rattle.bao_wellformed.specs.declared.ill.Ill.{Ill}
-use Rattle.bao_wellformed.specs.declared.claim.Claim.{Claim}
-use Rattle.bao_wellformed.specs.declared.claim.Claimed.{Claimed}
 use Rattle.bao_wellformed.specs.Break.{pairs, indexed}
-use Rattle.bao_wellformed.specs.Map.{Kind, MapEntry, map_of, kind_at}
-use Rattle.bao_wellformed.specs.Claims.{claims, claims_of_vm, numbers_of}
-use Rattle.bao_wellformed.specs.Rules.{are_one, claimed_twice}
-use Rattle.bao_wellformed.specs.ByteRules.{bounds_of, clashes, is_clash, is_one_shmem, is_present, kind_in, least_clash, least_of, shmem_of, rule_22}
+use Rattle.bao_wellformed.specs.Map.{MapEntry, map_of, kind_at}
+use Rattle.bao_wellformed.specs.ByteRules.{bounds_of, clashes, is_clash, is_one_shmem, is_present, kind_in, least_clash, shmem_of}
 use Rattle.bao_wellformed.specs.Laws.{IsLeast, IsVm, MapsApart}
-use Rattle.bao_wellformed.specs.WellFormed.{IsWellFormed}
 use Rattle.bao_wellformed.proofs.Bytes.{kind_changes}
-use Rattle.bao_wellformed.proofs.Empty.{IsPair, flat_got, indexed_got, is_pair, map_empty, map_got, none_in_each, none_passes, option_empty}
+use Rattle.bao_wellformed.proofs.Empty.{indexed_got, is_pair, none_in_each, option_empty}
 use Rattle.bao_wellformed.proofs.Kept.{IsKept, kept}
 use Rattle.bao_wellformed.proofs.Least.{ChangesOnlyAt, is_listed, least_of_all}
 
@@ -24,7 +18,7 @@ pub clash_changes : (ones others : List MapEntry)
     → ChangesOnlyAt (bounds_of ones ++ bounds_of others) (λ at. is_clash (kind_in ones at) (kind_in others at))
 clash_changes ones others at unlisted =
     let two = or_parts (is_listed (bounds_of ones) (suc at)) (is_listed (bounds_of others) (suc at))
-        (sym (list_any-append (λ byte. byte == suc at) (bounds_of ones) (bounds_of others)) ∙ unlisted) in
+    (sym (list_any-append (λ byte. byte == suc at) (bounds_of ones) (bounds_of others)) ∙ unlisted) in
     ap (λ kind. is_clash kind (kind_in others (suc at))) (kind_changes ones at two.0) ∙ ap (is_clash (kind_in ones at)) (kind_changes others at two.1)
 
 no_clash : (one other : Bool) (same : Bool) → (one && other && not same) ≡ false → one ≡ true → other ≡ true → same ≡ true

@@ -1,5 +1,5 @@
 -- Where a map may change from one byte to another.
-use Rattle.std.proofs.Common.{◌≡◌, ℕ, suc, ◌+◌, ◌%◌, ◌<◌, ◌≤◌, ◌==◌, Bool, true, false, cond, List, [], ◌∷◌, ◌++◌, reverse, find, All, Option, Some, None, refl, sym, subst, ap, ◌∙◌, arith, ◌||◌, nat_le, nat_lt, ◌&&◌}
+use Rattle.std.proofs.Common.{◌≡◌, ℕ, suc, ◌+◌, ◌%◌, ◌<◌, ◌≤◌, ◌==◌, Bool, true, false, cond, List, [], ◌∷◌, reverse, find, All, Some, refl, sym, subst, ap, ◌∙◌, arith, nat_le, nat_lt, ◌&&◌}
 use Rattle.std.proofs.lemmas.Bool.{or_parts}
 use Rattle.std.proofs.lemmas.Bool.Decides.{nat_tests}
 use Rattle.std.proofs.lemmas.List.{reverse-append}
@@ -7,7 +7,7 @@ use Rattle.std.proofs.lemmas.List.Elements.{All-append, All-cons, All-head, All-
 use Rattle.bao_types.specs.declared.range.ByteRange.{ByteRange}
 use Rattle.bao_types.specs.ByteRange.{end, is_within}
 use Rattle.bao_wellformed.specs.Map.{MapEntry, kind_of}
-use Rattle.bao_wellformed.specs.ByteRules.{bounds_of, cover, kind_in}
+use Rattle.bao_wellformed.specs.ByteRules.{bounds_of, kind_in}
 use Rattle.bao_wellformed.proofs.Least.{ChangesOnlyAt, is_listed}
 
 find_alike : {A : Type 0} (p q : A → Bool) (xs : List A) → All (λ x. p x ≡ q x) xs → find p xs ≡ find q xs
@@ -16,7 +16,7 @@ find_alike p q (x ∷ xs) all =
     ap (λ b. cond b (Some x) (find p xs)) (All-head (λ x. p x ≡ q x) x xs all)
     ∙ ap (λ rest. cond (q x) (Some x) rest) (find_alike p q xs (All-tail (λ x. p x ≡ q x) x xs all))
 
-all_reversed : {A : Type 0} (P : A → Type 0) (xs : List A) → All P xs → All P (reverse xs)
+pub all_reversed : {A : Type 0} (P : A → Type 0) (xs : List A) → All P xs → All P (reverse xs)
 all_reversed P [] all = All-nil P
 all_reversed P (x ∷ xs) all =
     subst (All P) (sym (reverse-append (x ∷ []) xs))

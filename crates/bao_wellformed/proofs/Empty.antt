@@ -1,5 +1,5 @@
 -- What an empty list of breaks says of the items.
-use Rattle.std.proofs.Common.{◌≡◌, ◌≢◌, ℕ, zero, suc, ◌+◌, ◌<◌, Bool, true, false, cond, ◌||◌, List, [], ◌∷◌, ◌++◌, map, filter, option_to_list, slice_get, get_or, length, All, Option, Some, None, refl, sym, subst, ap, ◌∙◌, arith}
+use Rattle.std.proofs.Common.{◌≡◌, ℕ, zero, suc, ◌+◌, ◌<◌, Bool, true, false, cond, ◌||◌, List, [], ◌∷◌, ◌++◌, map, filter, option_to_list, slice_get, get_or, length, All, Option, Some, None, refl, sym, subst, ap, ◌∙◌, arith}
 use Rattle.std.specs.List.{enumerate_from, flat_map, list_any, position_from}
 use Rattle.std.proofs.lemmas.List.{get_or-map, length-map}
 use Rattle.std.proofs.lemmas.List.Elements.{filter-append}
@@ -52,12 +52,12 @@ pub record IsPair {A : Type 0} (xs : List A) (x y : A) : Type 0 where
   pub place : ℕ
   pub got : slice_get (pairs xs) place ≡ Some (x, y)
 
-left_got : {A : Type 0} (xs ys : List A) (k : ℕ) (x : A) → slice_get xs k ≡ Some x → slice_get (xs ++ ys) k ≡ Some x
+pub left_got : {A : Type 0} (xs ys : List A) (k : ℕ) (x : A) → slice_get xs k ≡ Some x → slice_get (xs ++ ys) k ≡ Some x
 left_got [] ys k x got = cc
 left_got (z ∷ zs) ys zero x got = got
 left_got (z ∷ zs) ys (suc k) x got = left_got zs ys k x got
 
-right_got : {A : Type 0} (xs ys : List A) (k : ℕ) (x : A) → slice_get ys k ≡ Some x → (place : ℕ) × (slice_get (xs ++ ys) place ≡ Some x)
+pub right_got : {A : Type 0} (xs ys : List A) (k : ℕ) (x : A) → slice_get ys k ≡ Some x → (place : ℕ) × (slice_get (xs ++ ys) place ≡ Some x)
 right_got [] ys k x got = (k, got)
 right_got (z ∷ zs) ys k x got = let r = right_got zs ys k x got in (suc r.0, r.1)
 

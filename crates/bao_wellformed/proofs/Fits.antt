@@ -1,5 +1,5 @@
 -- What the bounds of a configuration say of its parts.
-use Rattle.std.proofs.Common.{◌≡◌, ℕ, zero, suc, ◌+◌, ◌*◌, ◌^◌, ◌<◌, ◌≤◌, ◌==◌, Bool, true, false, cond, List, [], ◌∷◌, ◌++◌, map, filter_map, find, length, get_or, slice_get, All, Option, Some, None, IfSome, option_map, refl, subst, sym, ap, ◌∙◌, arith, lit≤}
+use Rattle.std.proofs.Common.{◌≡◌, ℕ, zero, suc, ◌*◌, ◌^◌, ◌<◌, ◌≤◌, ◌==◌, Bool, true, false, cond, List, [], ◌∷◌, ◌++◌, map, filter_map, find, length, get_or, slice_get, All, Option, Some, None, IfSome, option_map, refl, subst, sym, ap, ◌∙◌, arith, lit≤}
 use Rattle.std.specs.List.{flat_map, cons_option}
 use Rattle.std.proofs.lemmas.List.{length-map, length-append, get_or-map}
 use Rattle.std.proofs.lemmas.List.Elements.{All-append, All-cons, All-head, All-tail, All-map, All-nil, All-weaker}
@@ -34,11 +34,17 @@ few_numbers Cores vm fits = omega (arith, fits.cores.short_enough)
 few_numbers Ports vm fits = omega (arith, length-map vm.devs (λ dev. dev.port), fits.devs.short_enough)
 few_numbers Shmems vm fits = omega (arith, length-map vm.ipcs (λ ipc. ipc.shmem), fits.ipcs.short_enough)
 few_numbers Irqs vm fits =
-    omega (arith, length-append (map (λ dev. dev.irq) vm.devs) (flat_map (λ ipc. ipc.irqs) vm.ipcs), length-map vm.devs (λ dev. dev.irq),
-    fits.devs.short_enough, few_irqs vm.ipcs fits.ipcs.each, fits.ipcs.short_enough)
+    omega (
+      arith,
+      length-append (map (λ dev. dev.irq) vm.devs) (flat_map (λ ipc. ipc.irqs) vm.ipcs),
+      length-map vm.devs (λ dev. dev.irq),
+      fits.devs.short_enough,
+      few_irqs vm.ipcs fits.ipcs.each,
+      fits.ipcs.short_enough,
+    )
 
 -- what is picked fits, if whatever may be picked does
-picked_fit : {A B : Type 0} (Fits : B → Type 0) (f : A → Option B) → ((x : A) → IfSome (f x) Fits) → (xs : List A) → All Fits (filter_map f xs)
+pub picked_fit : {A B : Type 0} (Fits : B → Type 0) (f : A → Option B) → ((x : A) → IfSome (f x) Fits) → (xs : List A) → All Fits (filter_map f xs)
 picked_fit Fits f each [] = All-nil Fits
 picked_fit {A} {B} Fits f each (x ∷ xs) = one_more (f x) (each x) (picked_fit Fits f each xs)
   where
@@ -47,7 +53,7 @@ picked_fit {A} {B} Fits f each (x ∷ xs) = one_more (f x) (each x) (picked_fit 
     one_more (Some y) fit rest = All-cons Fits y (filter_map f xs) fit rest
 
 -- the first that passes is one of them
-found_fits : {A : Type 0} (Fits : A → Type 0) (p : A → Bool) (xs : List A) → All Fits xs → IfSome (find p xs) Fits
+pub found_fits : {A : Type 0} (Fits : A → Type 0) (p : A → Bool) (xs : List A) → All Fits xs → IfSome (find p xs) Fits
 found_fits Fits p [] all = tt
 found_fits {A} Fits p (x ∷ xs) all = by_test (p x) (found_fits Fits p xs (All-tail Fits x xs all))
   where
@@ -55,12 +61,12 @@ found_fits {A} Fits p (x ∷ xs) all = by_test (p x) (found_fits Fits p xs (All-
     by_test true rest = All-head Fits x xs all
     by_test false rest = rest
 
-got_fits : {A : Type 0} (Fits : A → Type 0) (xs : List A) (i : ℕ) → All Fits xs → IfSome (slice_get xs i) Fits
+pub got_fits : {A : Type 0} (Fits : A → Type 0) (xs : List A) (i : ℕ) → All Fits xs → IfSome (slice_get xs i) Fits
 got_fits Fits [] i all = tt
 got_fits Fits (x ∷ xs) zero all = All-head Fits x xs all
 got_fits Fits (x ∷ xs) (suc i) all = got_fits Fits xs i (All-tail Fits x xs all)
 
-made_fits : {A B : Type 0} (Fits : A → Type 0) (Made : B → Type 0) (f : A → B) → ((x : A) → Fits x → Made (f x)) → (o : Option A) → IfSome o Fits → IfSome (option_map f o) Made
+pub made_fits : {A B : Type 0} (Fits : A → Type 0) (Made : B → Type 0) (f : A → B) → ((x : A) → Fits x → Made (f x)) → (o : Option A) → IfSome o Fits → IfSome (option_map f o) Made
 made_fits Fits Made f each None fit = tt
 made_fits Fits Made f each (Some x) fit = each x fit
 

@@ -1,5 +1,5 @@
 -- In a well-formed configuration each rule by itself has no break.
-use Rattle.std.proofs.Common.{◌≡◌, List, [], ◌++◌}
+use Rattle.std.proofs.Common.{◌≡◌, [], ◌++◌}
 use Rattle.bao_config.specs.Data.{ConfigData}
 use Rattle.bao_wellformed.specs.Rules.{rule_1, rule_2, rule_3, rule_4, rule_5, rule_6, rule_7, rule_8, rule_9, rule_10, rule_11, rule_12, rule_13, rule_14, rule_15, rule_16, rule_17, rule_18, rule_19}
 use Rattle.bao_wellformed.specs.ByteRules.{rule_20, rule_21, rule_22}

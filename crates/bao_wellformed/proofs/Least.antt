@@ -1,5 +1,5 @@
 -- The least byte that passes a test, which changes only at listed bytes, is 0 or one of these.
-use Rattle.std.proofs.Common.{◌≡◌, ℕ, zero, suc, ◌+◌, ◌<◌, ◌≤◌, ◌==◌, min, Bool, true, false, if◌then◌else◌, List, [], ◌∷◌, ◌++◌, fold, All, Option, None, Some, refl, sym, subst, ap, ◌∙◌, arith, append_assoc, ◌||◌, ◌⊎◌, inl, inr}
+use Rattle.std.proofs.Common.{◌≡◌, ℕ, zero, suc, ◌<◌, ◌≤◌, ◌==◌, min, Bool, true, false, if◌then◌else◌, List, [], ◌∷◌, ◌++◌, fold, All, Option, None, Some, refl, sym, subst, ap, ◌∙◌, arith, append_assoc, ◌||◌, ◌⊎◌, inl, inr}
 use Rattle.std.specs.List.{list_any}
 use Rattle.std.proofs.lemmas.Bool.{eqb-true, cases_lt, false_from_ne_true}
 use Rattle.std.proofs.lemmas.List.{append-nil}
@@ -29,13 +29,18 @@ module _ (test : ℕ → Bool) where
   Found bytes (Some least) = (test least ≡ true) × All (λ at. test at ≡ true → least ≤ at) bytes
 
   passed : (bytes : List ℕ) (at : ℕ) (found : Option ℕ) → test at ≡ true → Found bytes found → Found (bytes ++ at ∷ []) (Some (lesser at found))
-  passed bytes at None e so_far =
-      (e, All-push (λ byte. test byte ≡ true → at ≤ byte) bytes at
-      (All-weaker (λ byte. test byte ≡ false) (λ byte. test byte ≡ true → at ≤ byte) (λ byte no yes. absurd (let x : true ≡ false = sym yes ∙ no in cc)) bytes so_far)
-      (λ yes. omega arith))
-  passed bytes at (Some least) e (is, all) = (by_order (cases_lt at least), All-push (λ byte. test byte ≡ true → min at least ≤ byte) bytes at
-      (All-weaker (λ byte. test byte ≡ true → least ≤ byte) (λ byte. test byte ≡ true → min at least ≤ byte) (λ byte lower yes. let l = lower yes in omega arith) bytes all)
-      (λ yes. omega arith))
+  passed bytes at None e so_far = (
+    e,
+    All-push (λ byte. test byte ≡ true → at ≤ byte) bytes at
+        (All-weaker (λ byte. test byte ≡ false) (λ byte. test byte ≡ true → at ≤ byte) (λ byte no yes. absurd (let x : true ≡ false = sym yes ∙ no in cc)) bytes so_far)
+        (λ yes. omega arith),
+  )
+  passed bytes at (Some least) e (is, all) = (
+    by_order (cases_lt at least),
+    All-push (λ byte. test byte ≡ true → min at least ≤ byte) bytes at
+        (All-weaker (λ byte. test byte ≡ true → least ≤ byte) (λ byte. test byte ≡ true → min at least ≤ byte) (λ byte lower yes. let l = lower yes in omega arith) bytes all)
+        (λ yes. omega arith),
+  )
     where
       by_order : (at < least) ⊎ (least ≤ at) → test (min at least) ≡ true
       by_order (inl low) = let m : min at least ≡ at = omega arith in ap test m ∙ e

@@ -9,3 +9,5 @@ pub mod Kept
 pub mod Apart
 pub mod Once
 pub mod Places
+pub mod Absent
+pub mod Alone

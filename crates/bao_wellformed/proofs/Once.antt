@@ -1,12 +1,11 @@
 -- Nothing is claimed by two VMs.
-use Rattle.std.proofs.Common.{◌≡◌, ℕ, ◌<◌, ◌==◌, Bool, true, false, ◌⊎◌, inl, inr, List, [], slice_get, Some, refl, sym, ap, ◌∙◌, map, arith, ◌+◌}
-use Rattle.std.specs.List.{enumerate_from, flat_map, list_any}
+use Rattle.std.proofs.Common.{◌≡◌, ℕ, ◌<◌, ◌==◌, Bool, true, false, ◌⊎◌, inl, inr, List, [], slice_get, Some, refl, sym, ap, ◌∙◌, arith, ◌+◌}
+use Rattle.std.specs.List.{list_any}
 use Rattle.std.proofs.lemmas.Bool.{cases_order, eq-eqb, eqb-true}
 use Rattle.bao_config.specs.Data.{ConfigData, VmData}
 use Rattle.bao_wellformed.specs.declared.claim.Claim.{Claim}
 use Rattle.bao_wellformed.specs.declared.claim.Claimed.{Claimed}
 use Rattle.bao_wellformed.specs.declared.claim.Claimed.TheVariants.{Cores, Ports}
-use Rattle.bao_wellformed.specs.declared.ill.Ill.{Ill}
 use Rattle.bao_wellformed.specs.Break.{pairs, indexed}
 use Rattle.bao_wellformed.specs.Claims.{claims, claims_of_vm, numbers_of}
 use Rattle.bao_wellformed.specs.Map.{has_core}
@@ -15,11 +14,11 @@ use Rattle.bao_wellformed.specs.Laws.{CoresApart, CoresOwned, IsVm, PortsApart}
 use Rattle.bao_wellformed.proofs.Empty.{any_got, flat_got, indexed_got, is_pair, map_empty, map_got, none_passes, only_position}
 use Rattle.bao_wellformed.proofs.Kept.{kept}
 
-module _ (cfg : ConfigData) (claimed : Claimed) (rule : ℕ) (nothing : claimed_twice rule are_one (claims claimed cfg) ≡ []) where
-  abbrev claim : ℕ → ℕ → ℕ → Claim
+module _ (cfg : ConfigData) (claimed : Claimed) where
+  abbrev pub claim : ℕ → ℕ → ℕ → Claim
   claim v j number = record { vm = v; item = j; number = number }
 
-  claim_got : (v : ℕ) (vm : VmData) (j number : ℕ) → IsVm cfg v vm → slice_get (numbers_of claimed vm) j ≡ Some number
+  pub claim_got : (v : ℕ) (vm : VmData) (j number : ℕ) → IsVm cfg v vm → slice_get (numbers_of claimed vm) j ≡ Some number
       → (place : ℕ) × (slice_get (claims claimed cfg) place ≡ Some (claim v j number))
   claim_got v vm j number is got =
       let one : ℕ × ℕ → Claim = λ (j, number). claim v j number in
@@ -27,6 +26,7 @@ module _ (cfg : ConfigData) (claimed : Claimed) (rule : ℕ) (nothing : claimed_
       flat_got all (indexed cfg.vms) v (v, vm) j (claim v j number) (indexed_got v cfg.vms vm is)
       (map_got one (indexed (numbers_of claimed vm)) j (j, number) (indexed_got j (numbers_of claimed vm) number got))
 
+module _ (cfg : ConfigData) (claimed : Claimed) (rule : ℕ) (nothing : claimed_twice rule are_one (claims claimed cfg) ≡ []) where
   not_two : (p q : ℕ) (one other : Claim) → slice_get (claims claimed cfg) p ≡ Some one → slice_get (claims claimed cfg) q ≡ Some other
       → p < q → one.number ≡ other.number → ⊥
   not_two p q one other first second less same =
@@ -39,17 +39,17 @@ module _ (cfg : ConfigData) (claimed : Claimed) (rule : ℕ) (nothing : claimed_
   pub once : (v w : ℕ) (vm other : VmData) (i j number : ℕ) → IsVm cfg v vm → IsVm cfg w other
       → slice_get (numbers_of claimed vm) i ≡ Some number → slice_get (numbers_of claimed other) j ≡ Some number → v ≡ w
   once v w vm other i j number one two has has_too =
-      by_order (claim_got v vm i number one has) (claim_got w other j number two has_too)
+      by_order (claim_got cfg claimed v vm i number one has) (claim_got cfg claimed w other j number two has_too)
     where
-      by_places : (p q : ℕ) → slice_get (claims claimed cfg) p ≡ Some (claim v i number) → slice_get (claims claimed cfg) q ≡ Some (claim w j number)
+      by_places : (p q : ℕ) → slice_get (claims claimed cfg) p ≡ Some (claim cfg claimed v i number) → slice_get (claims claimed cfg) q ≡ Some (claim cfg claimed w j number)
           → (p ≡ q) ⊎ ((p < q) ⊎ (q < p)) → v ≡ w
       by_places p q first second (inl same) =
-          let e : Some (claim v i number) ≡ Some (claim w j number) = sym first ∙ ap (slice_get (claims claimed cfg)) same ∙ second in
-          let c : claim v i number ≡ claim w j number = cc in ap (λ (x : Claim). x.vm) c
-      by_places p q first second (inr (inl less)) = absurd (not_two p q (claim v i number) (claim w j number) first second less refl)
-      by_places p q first second (inr (inr more)) = absurd (not_two q p (claim w j number) (claim v i number) second first more refl)
+          let e : Some (claim cfg claimed v i number) ≡ Some (claim cfg claimed w j number) = sym first ∙ ap (slice_get (claims claimed cfg)) same ∙ second in
+          let c : claim cfg claimed v i number ≡ claim cfg claimed w j number = cc in ap (λ (x : Claim). x.vm) c
+      by_places p q first second (inr (inl less)) = absurd (not_two p q (claim cfg claimed v i number) (claim cfg claimed w j number) first second less refl)
+      by_places p q first second (inr (inr more)) = absurd (not_two q p (claim cfg claimed w j number) (claim cfg claimed v i number) second first more refl)
 
-      by_order : (p : ℕ) × (slice_get (claims claimed cfg) p ≡ Some (claim v i number)) → (q : ℕ) × (slice_get (claims claimed cfg) q ≡ Some (claim w j number)) → v ≡ w
+      by_order : (p : ℕ) × (slice_get (claims claimed cfg) p ≡ Some (claim cfg claimed v i number)) → (q : ℕ) × (slice_get (claims claimed cfg) q ≡ Some (claim cfg claimed w j number)) → v ≡ w
       by_order (p, first) (q, second) = by_places p q first second (cases_order p q)
 
 -- a number that passes the test for one is at a place

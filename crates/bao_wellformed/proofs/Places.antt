@@ -1,5 +1,5 @@
 -- What the other laws of a well-formed configuration need: places, granules, and where maps end.
-use Rattle.std.proofs.Common.{◌≡◌, ℕ, suc, ◌+◌, ◌%◌, ◌<◌, ◌≤◌, ◌==◌, Bool, true, false, not, ◌&&◌, List, [], ◌∷◌, ◌++◌, map, filter, get_or, length, All, nat_lt, slice_get, Option, None, Some, refl, sym, subst, ap, ◌∙◌, arith, if◌then◌else◌}
+use Rattle.std.proofs.Common.{◌≡◌, ℕ, suc, ◌+◌, ◌≤◌, ◌==◌, Bool, true, false, not, ◌&&◌, List, [], ◌∷◌, ◌++◌, map, filter, All, nat_lt, None, sym, subst, ap, ◌∙◌}
 use Rattle.std.specs.List.{flat_map}
 use Rattle.std.proofs.lemmas.Bool.{not-false, or_parts, ltb-false}
 use Rattle.std.proofs.lemmas.List.Elements.{All-head, All-tail, All-weaker}
@@ -7,11 +7,10 @@ use Rattle.bao_types.specs.declared.range.ByteRange.{ByteRange}
 use Rattle.bao_types.specs.ByteRange.{address_space_end, end, is_within}
 use Rattle.bao_types.specs.Shape.{port_range}
 use Rattle.bao_config.specs.Data.{ConfigData, VmData}
-use Rattle.bao_config.specs.Fits.{RangeFits}
-use Rattle.bao_wellformed.specs.Map.{MapEntry, map_of, kind_at}
+use Rattle.bao_wellformed.specs.Map.{MapEntry, map_of}
 use Rattle.bao_wellformed.specs.Break.{indexed}
 use Rattle.bao_wellformed.specs.Rules.{all_ranges, distributor, redistributors, vm_ranges}
-use Rattle.bao_wellformed.specs.ByteRules.{bounds_of, is_lacking, is_ram, kind_in, least_lacking, place_not_ram, start_not_executable, first_instruction, is_clash, least_clash}
+use Rattle.bao_wellformed.specs.ByteRules.{bounds_of, is_lacking, is_ram, kind_in, least_lacking, place_not_ram, start_not_executable, first_instruction, is_clash}
 use Rattle.bao_wellformed.specs.Laws.{ClashLeast, HypervisorInSpace, IsLeast, IsVm, LackingLeast, MapsGranular, MapsInSpace, PlacesOwn, StartsExecutable}
 use Rattle.bao_wellformed.specs.WellFormed.{IsWellFormed}
 use Rattle.bao_wellformed.proofs.Apart.{clash_changes}
@@ -19,7 +18,7 @@ use Rattle.bao_wellformed.proofs.Bytes.{kind_alike, kind_changes, within_granule
 use Rattle.bao_wellformed.proofs.Empty.{all_fail, all_of_viewed, indexed_got, map_empty, none_in_each, none_passes_in, none_passes_of, option_empty}
 use Rattle.bao_wellformed.proofs.Fits.{EntryFits, map_all, map_fits, vm_fits}
 use Rattle.bao_wellformed.proofs.Kept.{kept}
-use Rattle.bao_wellformed.proofs.Least.{ChangesOnlyAt, is_listed, least_of_all}
+use Rattle.bao_wellformed.proofs.Least.{ChangesOnlyAt, least_of_all}
 
 lacking_changes : (executable : Bool) (range : ByteRange) (entries : List MapEntry)
     → ChangesOnlyAt (range.base ∷ end range ∷ bounds_of entries) (is_lacking executable range entries)

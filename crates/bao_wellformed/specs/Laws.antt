@@ -1,5 +1,5 @@
 -- What a well-formed configuration promises, in terms of its data and of the maps of its VMs.
-use Rattle.std.specs.Prelude.{◌≡◌, ◌≢◌, ◌⊎◌, ℕ, ◌+◌, ◌%◌, ◌<◌, ◌≤◌, Bool, true, false, IsTrue, IsFalse, List, [], ◌∷◌, ◌++◌, All, Contains, Option, Some, None, slice_get, ◌==◌}
+use Rattle.std.specs.Prelude.{◌≡◌, ◌≢◌, ℕ, ◌+◌, ◌%◌, ◌<◌, ◌≤◌, Bool, true, false, IsTrue, List, All, Option, Some, None, slice_get, ◌==◌, ◌⊎◌, IsFalse, [], ◌∷◌}
 use Rattle.std.specs.List.{list_any, position_from}
 use Rattle.bao_types.specs.declared.range.ByteRange.{ByteRange}
 use Rattle.bao_types.specs.ByteRange.{address_space_end, end, is_within}
@@ -73,6 +73,24 @@ MapsInSpace =
 
 abbrev pub HypervisorInSpace : Type 0
 HypervisorInSpace = (cfg : ConfigData) → IsWellFormed cfg → end cfg.hyp ≤ address_space_end
+
+-- no byte of the hypervisor's range is in a map, and none of an emulated frame of the interrupt controller
+abbrev pub HypervisorAbsent : Type 0
+HypervisorAbsent =
+    (cfg : ConfigData) (v : ℕ) (vm : VmData) (at : ℕ) → IsWellFormed cfg → IsVm cfg v vm → IsTrue (is_within cfg.hyp at)
+    → IsFalse (is_present (kind_at cfg vm at))
+
+abbrev pub FramesAbsent : Type 0
+FramesAbsent =
+    (cfg : ConfigData) (v : ℕ) (vm : VmData) (at : ℕ) → IsWellFormed cfg → IsVm cfg v vm
+    → IsTrue (is_within (distributor cfg) at) ⊎ IsTrue (is_within (redistributors cfg) at) → IsFalse (is_present (kind_at cfg vm at))
+
+-- the configuration with one VM of a well-formed one as its only one is well formed
+abbrev pub alone : ConfigData → VmData → ConfigData
+alone cfg vm = record cfg { vms = vm ∷ [] }
+
+abbrev pub AloneWellFormed : Type 0
+AloneWellFormed = (cfg : ConfigData) (v : ℕ) (vm : VmData) → IsWellFormed cfg → IsVm cfg v vm → IsWellFormed (alone cfg vm)
 
 -- the bytes that rules 20 to 22 name are the least of all
 abbrev pub LackingLeast : Type 0

@@ -1,8 +1,6 @@
 -- A sample: two VMs on two cores, each with 64 KiB of memory and a port, and one shared memory. Changed configurations show
 -- which break is reported.
-use Rattle.std.specs.Prelude.{ℕ, List, [], ◌∷◌, codes, Bool, true, false}
-use Rattle.bao_types.specs.declared.range.ByteRange.{ByteRange}
-use Rattle.bao_config.specs.declared.config.PortPlace.{PortPlace}
+use Rattle.std.specs.Prelude.{ℕ, [], ◌∷◌, codes, true}
 use Rattle.bao_config.specs.declared.config.MapRegion.{MapRegion}
 use Rattle.bao_config.specs.Data.{ConfigData, PlatformData, VmData, IpcData}
 

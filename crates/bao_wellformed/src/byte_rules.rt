@@ -74,10 +74,7 @@ fn is_ram(executable: bool, kind: Kind) -> bool
     match kind {
         Kind::Ram { write: _, exec } => exec || !executable,
         Kind::Port { id: _ } => false,
-        Kind::Window {
-            shmem: _,
-            write: _,
-        } => false,
+        Kind::Window { shmem: _, write: _ } => false,
         Kind::Hole => false,
     }
 }

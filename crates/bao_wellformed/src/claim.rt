@@ -130,7 +130,13 @@ pub(crate) fn rule_11(alloc: Global, config: &Config) -> Result<Option<Ill>, All
     ensures { IfOk result (λ found. found ≡ first (rule_11 (config_data config.now))) }
 {
     let all = claims(alloc, Claimed::Cores, config)?;
-    Ok(first_of_pairs(&ClaimedOnce { rule: 11, in_each_vm: false }, all.as_slice()))
+    Ok(first_of_pairs(
+        &ClaimedOnce {
+            rule: 11,
+            in_each_vm: false,
+        },
+        all.as_slice(),
+    ))
 }
 
 /// 15: no port is claimed twice.
@@ -138,7 +144,13 @@ pub(crate) fn rule_15(alloc: Global, config: &Config) -> Result<Option<Ill>, All
     ensures { IfOk result (λ found. found ≡ first (rule_15 (config_data config.now))) }
 {
     let all = claims(alloc, Claimed::Ports, config)?;
-    Ok(first_of_pairs(&ClaimedOnce { rule: 15, in_each_vm: false }, all.as_slice()))
+    Ok(first_of_pairs(
+        &ClaimedOnce {
+            rule: 15,
+            in_each_vm: false,
+        },
+        all.as_slice(),
+    ))
 }
 
 /// 17: no VM has two windows on one shared memory.
@@ -146,7 +158,13 @@ pub(crate) fn rule_17(alloc: Global, config: &Config) -> Result<Option<Ill>, All
     ensures { IfOk result (λ found. found ≡ first (rule_17 (config_data config.now))) }
 {
     let all = claims(alloc, Claimed::Shmems, config)?;
-    Ok(first_of_pairs(&ClaimedOnce { rule: 17, in_each_vm: true }, all.as_slice()))
+    Ok(first_of_pairs(
+        &ClaimedOnce {
+            rule: 17,
+            in_each_vm: true,
+        },
+        all.as_slice(),
+    ))
 }
 
 /// 19: no interrupt number stands twice in a VM.
@@ -154,5 +172,11 @@ pub(crate) fn rule_19(alloc: Global, config: &Config) -> Result<Option<Ill>, All
     ensures { IfOk result (λ found. found ≡ first (rule_19 (config_data config.now))) }
 {
     let all = claims(alloc, Claimed::Irqs, config)?;
-    Ok(first_of_pairs(&ClaimedOnce { rule: 19, in_each_vm: true }, all.as_slice()))
+    Ok(first_of_pairs(
+        &ClaimedOnce {
+            rule: 19,
+            in_each_vm: true,
+        },
+        all.as_slice(),
+    ))
 }

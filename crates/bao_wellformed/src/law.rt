@@ -1,22 +1,26 @@
-ghost use Rattle.bao_wellformed.specs.Laws.{MapsApart, CoresApart, CoresOwned, PortsApart, PlacesOwn, StartsExecutable, MapsGranular, MapsInSpace, HypervisorInSpace, LackingLeast, ClashLeast};
+ghost use Rattle.bao_wellformed.specs.Laws.{AloneWellFormed, MapsApart, CoresApart, CoresOwned, PortsApart, PlacesOwn, StartsExecutable, MapsGranular, HypervisorAbsent, FramesAbsent, MapsInSpace, HypervisorInSpace, LackingLeast, ClashLeast};
 
-/// The laws by which VMs are apart: a byte that two of them both have is a window of both on one shared memory, and no core
-/// and no port is given to two. The function does nothing; its contract is the laws.
+/// The laws by which VMs are apart: a byte that two of them both have is a window of both on one shared memory, no core
+/// and no port is given to two, and each VM alone makes a well-formed configuration. The function does nothing; its contract is the laws.
 pub fn laws_of_separation()
     ensures maps { MapsApart }
     ensures cores { CoresApart }
     ensures owners { CoresOwned }
     ensures ports { PortsApart }
+    ensures alone { AloneWellFormed }
 {}
 
 /// The laws of one VM's map: its place is memory of its own, it starts in memory that it may execute, each 64 bytes are of
-/// one kind, and nothing of it is above 2^48. The function does nothing; its contract is the laws.
+/// one kind, nothing of it is above 2^48, and neither the hypervisor's range nor an emulated frame of the interrupt
+/// controller is in it. The function does nothing; its contract is the laws.
 pub fn laws_of_maps()
     ensures places { PlacesOwn }
     ensures starts { StartsExecutable }
     ensures granular { MapsGranular }
+    ensures hypervisor_absent { HypervisorAbsent }
+    ensures frames_absent { FramesAbsent }
     ensures in_space { MapsInSpace }
-    ensures hypervisor { HypervisorInSpace }
+    ensures hypervisor_in_space { HypervisorInSpace }
 {}
 
 /// The bytes that rules 20 to 22 name are the least of all that break them, not only of the bounds that are tried. The

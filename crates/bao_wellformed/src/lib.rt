@@ -4,8 +4,8 @@
 //! nothing. It is asked byte by byte here; the packing of a core's protection regions goes over ranges, in a crate above.
 #![tactic(auto)]
 
-mod byte_rules;
 mod all_rules;
+mod byte_rules;
 mod checked;
 mod claim;
 mod ill;

@@ -155,4 +155,3 @@ pub(crate) fn rule_7(config: &Config) -> Option<Ill>
     }
     None
 }
-

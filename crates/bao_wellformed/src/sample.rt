@@ -8,14 +8,26 @@ pub fn rows_of_the_sample()
     ensures well_formed { IsWellFormed (sample 0x180000 vm_a vm_b) }
     ensures common_memory { first_ill
         (sample 0x180000 vm_a (record vm_b { regions = all_access 0x10ffc0 0x40000 ∷ [] }))
-        ≡ Some (record { rule = 22; vm = 1; item = 0; first = record { base = 0x100000; size = 0x10000 };
-            second = record { base = 0x10ffc0; size = 0x40000 } }) }
+        ≡ Some (record {
+          rule = 22;
+          vm = 1;
+          item = 0;
+          first = record { base = 0x100000; size = 0x10000 };
+          second = record { base = 0x10ffc0; size = 0x40000 };
+        }) }
     ensures window_on_memory { first_ill
         (sample 0x148000 vm_a (record vm_b { ipcs = [] }))
-        ≡ Some (record { rule = 22; vm = 1; item = 0; first = record { base = 0x148000; size = 0x1000 };
-            second = record { base = 0x140000; size = 0x10000 } }) }
+        ≡ Some (record {
+          rule = 22;
+          vm = 1;
+          item = 0;
+          first = record { base = 0x148000; size = 0x1000 };
+          second = record { base = 0x140000; size = 0x10000 };
+        }) }
     // A guard over the common byte: the byte is the one VM's alone.
     ensures guarded { IsWellFormed
-        (sample 0x180000 vm_a (record vm_b { regions = all_access 0x10ffc0 0x40000 ∷ [];
-            guards = record { base = 0x10ffc0; size = 64 } ∷ [] })) }
+        (sample 0x180000 vm_a (record vm_b {
+          regions = all_access 0x10ffc0 0x40000 ∷ [];
+          guards = record { base = 0x10ffc0; size = 64 } ∷ [];
+        })) }
 {}

@@ -13,12 +13,12 @@ pub push_claims-requires : goal.push_claims-requires
 push_claims-requires c =
     let vms = c.deref-vm-items.ensures.value in
     let fits =
-        viewed_fits VmFits vm_data c.args.config.now.vms.items c.loop-place.place c.vm-item.result
-        (subst (λ (vms : List Vm). c.loop-place.place < length vms) vms c.loop-place-test.true)
-        (subst (λ (vms : List Vm). c.vm-item.result ≡ get_or vms c.loop-place.place c.vm-item.result) vms c.vm-item.is) c.args.config.now.fits.vms.each in
+    viewed_fits VmFits vm_data c.args.config.now.vms.items c.loop-place.place c.vm-item.result
+    (subst (λ (vms : List Vm). c.loop-place.place < length vms) vms c.loop-place-test.true)
+    (subst (λ (vms : List Vm). c.vm-item.result ≡ get_or vms c.loop-place.place c.vm-item.result) vms c.vm-item.is) c.args.config.now.fits.vms.each in
     let few = few_numbers c.args.claimed (vm_data c.vm-item.result) fits in
     let same : length c.as_slice.result.now ≡ length (numbers_of c.args.claimed (vm_data c.vm-item.result)) =
-        ap (λ (numbers : List ℕ). length numbers) (c.as_slice.ensures.value ∙ c.in_ok-numbers.ensures) in
+    ap (λ (numbers : List ℕ). length numbers) (c.as_slice.ensures.value ∙ c.in_ok-numbers.ensures) in
     omega (arith, few, same)
 
 pub loop-place-preserved : goal.loop-place-preserved

@@ -1,4 +1,4 @@
-use Rattle.std.proofs.Common.{◌≡◌, drop, map, filter}
+use Rattle.std.proofs.Common.{◌≡◌, drop}
 use Rattle.bao_wellformed.specs.Break.{pairs, first}
 use Rattle.bao_wellformed.proofs.Firsts.{found_in}
 use Rattle.bao_wellformed.proofs.pair_rules.first_of_pairs.Given as goal

@@ -1,7 +1,6 @@
-use Rattle.std.proofs.Common.{◌≡◌, drop, map, filter, not}
+use Rattle.std.proofs.Common.{◌≡◌, drop, filter, not}
 use Rattle.bao_config.specs.declared.config.Shmem.{Shmem}
 use Rattle.bao_config.specs.Config.{config_data}
-use Rattle.bao_wellformed.specs.Break.{broken, first}
 use Rattle.bao_wellformed.specs.Rules.{lies_in_a_bank}
 use Rattle.bao_wellformed.proofs.platform_rules.rule_6.Given as goal
 

@@ -10,8 +10,8 @@ invariant-loop-later g l =
     record {
       low : l.later ≤ length l.config.vms.items;
       rest :
-        first (joined_from vm_data (g.R.VmPairRule.breaks (config_data l.config) l.place (vm_data l.vm)) l.later (drop l.later l.config.vms.items))
-        ≡ first (joined_from vm_data (g.R.VmPairRule.breaks (config_data l.config) l.place (vm_data l.vm)) (l.place + 1) (drop (l.place + 1) l.config.vms.items));
+          first (joined_from vm_data (g.R.VmPairRule.breaks (config_data l.config) l.place (vm_data l.vm)) l.later (drop l.later l.config.vms.items))
+          ≡ first (joined_from vm_data (g.R.VmPairRule.breaks (config_data l.config) l.place (vm_data l.vm)) (l.place + 1) (drop (l.place + 1) l.config.vms.items));
     }
 
 abbrev pub decreases-loop-later : goal.decreases-loop-later

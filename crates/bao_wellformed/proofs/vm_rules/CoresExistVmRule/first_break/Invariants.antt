@@ -1,6 +1,5 @@
-use Rattle.std.proofs.Common.{◌≡◌, ℕ, not, nat_le, length, map, drop, filter, slice_get}
+use Rattle.std.proofs.Common.{◌≡◌, ℕ, nat_le, length, drop, filter}
 use Rattle.std.specs.List.{enumerate_from}
-use Rattle.bao_config.specs.Config.{config_data}
 use Rattle.bao_wellformed.proofs.vm_rules.CoresExistVmRule.first_break.Given as goal
 
 abbrev pub invariant-loop-item : goal.invariant-loop-item

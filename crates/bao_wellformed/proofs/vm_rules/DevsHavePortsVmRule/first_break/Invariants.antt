@@ -1,4 +1,4 @@
-use Rattle.std.proofs.Common.{◌≡◌, ℕ, not, nat_le, length, map, drop, filter, slice_get}
+use Rattle.std.proofs.Common.{◌≡◌, ℕ, not, drop, filter}
 use Rattle.std.specs.List.{enumerate_from}
 use Rattle.bao_config.specs.Config.{config_data}
 use Rattle.bao_config.specs.declared.config.Dev.{Dev}
