@@ -1,7 +1,8 @@
 -- Nothing is claimed by two VMs.
-use Rattle.std.proofs.Common.{◌≡◌, ℕ, ◌<◌, ◌==◌, Bool, true, false, ◌⊎◌, inl, inr, List, [], slice_get, Some, refl, sym, ap, ◌∙◌, arith, ◌+◌}
+use Rattle.std.proofs.Common.{◌≡◌, ℕ, ◌<◌, ◌==◌, Bool, true, false, ◌⊎◌, inl, inr, ◌||◌, List, [], ◌∷◌, map, slice_get, Some, refl, sym, ap, ◌∙◌, arith, ◌+◌}
 use Rattle.std.specs.List.{list_any}
 use Rattle.std.proofs.lemmas.Bool.{cases_order, eq-eqb, eqb-true}
+use Rattle.bao_config.specs.declared.config.Dev.{Dev}
 use Rattle.bao_config.specs.Data.{ConfigData, VmData}
 use Rattle.bao_wellformed.specs.declared.claim.Claim.{Claim}
 use Rattle.bao_wellformed.specs.declared.claim.Claimed.{Claimed}
@@ -62,9 +63,16 @@ cores_apart cfg v w vm other core well_formed one two has has_too =
     let i = number_got vm.cores core has in let j = number_got other.cores core has_too in
     once cfg Cores 11 (kept cfg well_formed).r11 v w vm other i.0 j.0 core one two i.1 j.1
 
+-- a port that a VM has is among the numbers of its devs
+port_listed :
+    (devs : List Dev) (port : ℕ) → list_any (λ dev. dev.port == port) devs ≡ list_any (λ own. own == port) (map (λ dev. dev.port) devs)
+port_listed [] port = refl
+port_listed (dev ∷ devs) port = ap (λ later. (dev.port == port) || later) (port_listed devs port)
+
 pub ports_apart : PortsApart
 ports_apart cfg v w vm other port well_formed one two has has_too =
-    let i = number_got (numbers_of Ports vm) port has in let j = number_got (numbers_of Ports other) port has_too in
+    let i = number_got (numbers_of Ports vm) port (sym (port_listed vm.devs port) ∙ has) in
+    let j = number_got (numbers_of Ports other) port (sym (port_listed other.devs port) ∙ has_too) in
     once cfg Ports 15 (kept cfg well_formed).r15 v w vm other i.0 j.0 port one two i.1 j.1
 
 pub cores_owned : CoresOwned

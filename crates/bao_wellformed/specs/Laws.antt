@@ -1,13 +1,11 @@
 -- What a well-formed configuration promises, in terms of its data and of the maps of its VMs.
-use Rattle.std.specs.Prelude.{◌≡◌, ◌≢◌, ℕ, ◌+◌, ◌%◌, ◌<◌, ◌≤◌, Bool, true, false, IsTrue, List, All, Option, Some, None, slice_get, ◌==◌, ◌⊎◌, IsFalse, [], ◌∷◌}
-use Rattle.std.specs.List.{list_any, position_from}
+use Rattle.std.specs.Prelude.{◌≡◌, ◌≢◌, ℕ, ◌+◌, ◌%◌, ◌<◌, ◌≤◌, Bool, true, false, IsTrue, List, All, Option, Some, None, slice_get, ◌⊎◌, IsFalse, [], ◌∷◌}
+use Rattle.std.specs.List.{position_from}
 use Rattle.bao_types.specs.declared.range.ByteRange.{ByteRange}
 use Rattle.bao_types.specs.ByteRange.{address_space_end, end, is_within}
 use Rattle.bao_config.specs.Data.{ConfigData, VmData}
 use Rattle.bao_config.specs.Fits.{ConfigFits}
-use Rattle.bao_wellformed.specs.declared.claim.Claimed.TheVariants.{Ports}
-use Rattle.bao_wellformed.specs.Map.{MapEntry, map_of, kind_at, has_core}
-use Rattle.bao_wellformed.specs.Claims.{numbers_of}
+use Rattle.bao_wellformed.specs.Map.{MapEntry, map_of, kind_at, has_core, has_port}
 use Rattle.bao_wellformed.specs.Rules.{distributor, redistributors}
 use Rattle.bao_wellformed.specs.ByteRules.{least_lacking, least_clash, is_lacking, is_clash, is_ram, is_present, first_instruction, kind_in, shmem_of}
 use Rattle.bao_wellformed.specs.WellFormed.{IsWellFormed}
@@ -38,9 +36,6 @@ abbrev pub CoresOwned : Type 0
 CoresOwned =
     (cfg : ConfigData) (v : ℕ) (vm : VmData) (core : ℕ) → IsWellFormed cfg → IsVm cfg v vm → IsTrue (has_core core vm)
     → position_from (has_core core) 0 cfg.vms ≡ Some v
-
-abbrev pub has_port : ℕ → VmData → Bool
-has_port port vm = list_any (λ number. number == port) (numbers_of Ports vm)
 
 -- a port is one VM's at most
 abbrev pub PortsApart : Type 0
