@@ -16,9 +16,9 @@ use outside::{FileShelf, OutSink, Shelf, Sink, WorkingDirectory};
 use report::{Status, write_refusal};
 use sim_board::SimBoard;
 use std::alloc::Global;
+use std::io::Print;
 use std::process::ExitCode;
 use std::rt::{Env, Files};
-use std::io::Print;
 use std::{env, io};
 
 /// Carries out the command of the process's command line, and gives the exit status.

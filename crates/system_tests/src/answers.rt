@@ -64,6 +64,7 @@ done
 }
 
 const USAGE: &str = "usage: run CONFIG SCHEDULE or check CONFIG or gen N\n";
+
 const OTHER: &str = "not built words\n";
 
 /// Words that aren't those of a run, with the status and the line that they get.
@@ -91,7 +92,13 @@ static WORDS: [(&[&str], u8, &str); 19] = [
     (&["gen", "1", "2"],                             2, USAGE),
 ];
 
-fn check_words(rt: &impl Abort, alloc: Global, words: &[&str], status: u8, line: &str) -> Result<(), Fail> {
+fn check_words(
+    rt: &impl Abort,
+    alloc: Global,
+    words: &[&str],
+    status: u8,
+    line: &str,
+) -> Result<(), Fail> {
     let mut case = case_of(b"", b"");
     case.words = words;
     let shows = format!(in alloc; "{words:?}")?;
@@ -151,9 +158,7 @@ fn check_schedule(
         Some(entered) => {
             format!(in alloc; "status 0 entered {entered} calls 3 faults 0\n{FOREVER_REPORT}")?
         }
-        None => {
-            format!(in alloc; "status 12 entered 0 calls 3 faults 0\nnot built schedule\n")?
-        }
+        None => { format!(in alloc; "status 12 entered 0 calls 3 faults 0\nnot built schedule\n")? }
     };
     let image = image_of(alloc, &FOREVER)?;
     check(rt, alloc, shows, &case_of(&image, schedule), &wanted)
@@ -217,9 +222,21 @@ fn limits(rt: HostRuntime) -> Result<(), Fail> {
 
 /// The call of the shelf that fails and the answer. A sink that fails at the line leaves the status.
 static FAILING_CALLS: [(&[u32], &[u32], &str); 7] = [
-    (&[1], &[], "status 3 entered 0 calls 1 faults 1\nread fault config\n"),
-    (&[2], &[], "status 3 entered 0 calls 2 faults 1\nread fault image 0\n"),
-    (&[3], &[], "status 3 entered 0 calls 3 faults 1\nread fault schedule\n"),
+    (
+        &[1],
+        &[],
+        "status 3 entered 0 calls 1 faults 1\nread fault config\n",
+    ),
+    (
+        &[2],
+        &[],
+        "status 3 entered 0 calls 2 faults 1\nread fault image 0\n",
+    ),
+    (
+        &[3],
+        &[],
+        "status 3 entered 0 calls 3 faults 1\nread fault schedule\n",
+    ),
     (&[1], &[1], "status 3 entered 0 calls 1 faults 1\n"),
     (&[2], &[1], "status 3 entered 0 calls 2 faults 1\n"),
     (&[3], &[1], "status 3 entered 0 calls 3 faults 1\n"),

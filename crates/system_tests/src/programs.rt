@@ -15,7 +15,12 @@ fn has_line(text: &str, line: &str) -> bool {
 }
 
 /// Runs a program with words before it, which take a step each, and looks for the lines in its report.
-fn check_program(rt: &impl Abort, alloc: Global, first: &[u32], program: &Program) -> Result<(), Fail> {
+fn check_program(
+    rt: &impl Abort,
+    alloc: Global,
+    first: &[u32],
+    program: &Program,
+) -> Result<(), Fail> {
     let (shows, words, count, [one, other]) = *program;
     let mut image = image_of(alloc, first)?;
     image.extend_from_slice(&image_of(alloc, words)?)?;
@@ -190,8 +195,9 @@ fn check_not_built(
     let schedule = steps(alloc, count)?;
     let told = told(alloc, &case_of(&image, &schedule))?;
     let entered = u64::from(event) + 1;
-    let wanted =
-        format!(in alloc; "status 12 entered {entered} calls 3 faults 0\nnot built event {event}\n")?;
+    let wanted = format!(in alloc;
+        "status 12 entered {entered} calls 3 faults 0\nnot built event {event}\n"
+    )?;
     assert_eq!(rt; told, wanted, "{shows}");
     Ok(())
 }

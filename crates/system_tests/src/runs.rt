@@ -101,9 +101,9 @@ pub(crate) fn told(alloc: Global, case: &Case) -> Result<String, Fail> {
     let number = status.number();
     let (entered, calls, faults) = (board.entered(), shelf.calls(), shelf.faults());
     let text = std::str::from_utf8(sink.taken())?;
-    Ok(
-        format!(in alloc; "status {number} entered {entered} calls {calls} faults {faults}\n{text}")?,
-    )
+    Ok(format!(in alloc;
+        "status {number} entered {entered} calls {calls} faults {faults}\n{text}"
+    )?)
 }
 
 /// Compares what a call left with what is wanted.
