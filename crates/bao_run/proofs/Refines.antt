@@ -18,7 +18,7 @@ use Rattle.vm_model.specs.Project.{project}
 use Rattle.report.specs.Sample.{sample}
 use Rattle.bao_run.specs.Sample.{sample_packing, hypervisor_entry, memory_entry, console_entry}
 use Rattle.bao_run.specs.Shape.{core_mask, shape_of}
-use Rattle.bao_run.specs.Packing.{IsRealised, Realises}
+use Rattle.mpu_packer.specs.Packing.{IsRealised, Realises}
 use Rattle.bao_run.specs.Packed.{ArePacked}
 use Rattle.bao_run.specs.Steps.{IsStepAlike, StepsAlike}
 use Rattle.bao_run.proofs.Realises.{verdicts_alike}

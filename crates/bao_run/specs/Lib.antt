@@ -1,6 +1,5 @@
 pub mod Sample
 pub mod Shape
-pub mod Packing
 pub mod Packed
 pub mod Words
 pub mod Command

@@ -4,7 +4,7 @@ use Rattle.bao_types.specs.declared.region.Region.{Region}
 use Rattle.bao_config.specs.Data.{ConfigData}
 use Rattle.bao_wellformed.specs.Map.{class_of}
 use Rattle.board.specs.Machine.{entries_at}
-use Rattle.bao_run.specs.Packing.{Realises}
+use Rattle.mpu_packer.specs.Packing.{Realises}
 
 -- each core of the platform has entries that realise the map for it
 pub record ArePacked (cfg : ConfigData) (entries : List (List Region)) : Type 0 where

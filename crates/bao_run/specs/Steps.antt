@@ -8,17 +8,12 @@ use Rattle.board.specs.Machine.{Machine, entries_at, stepped, step_is_unbuilt}
 use Rattle.vm_model.specs.Flat.{Power, Step, runs, flat_step, is_event_unbuilt}
 use Rattle.vm_model.specs.Project.{project}
 use Rattle.bao_run.specs.Shape.{shape_of}
-use Rattle.bao_run.specs.Packing.{Realises}
+use Rattle.mpu_packer.specs.Packing.{Realises}
 
 -- what the step leaves is what the model's step leaves, and it is built where that is
 pub record IsStepAlike (cfg : ConfigData) (m : Machine) (powers : List Power) (core now : ℕ) : Type 0 where
   pub state : project powers (stepped m core now) ≡ flat_step cfg (project powers m) (Step core now)
   pub unbuilt : step_is_unbuilt m core now ≡ is_event_unbuilt cfg (project powers m) (Step core now)
-
--- for every configuration: entries that realise its map give each access to each byte the verdict of the map
-abbrev pub VerdictsAlike : Type 0
-VerdictsAlike =
-    (entries : List Region) (cfg : ConfigData) (core : ℕ) → Realises entries (class_of cfg core) → by_entries entries ≡ by_map cfg core
 
 -- for every configuration: where a board has its shape, and the entries of a core realise its map, a step of the core, if it runs,
 -- is the step of the model

@@ -1,4 +1,6 @@
-ghost use Rattle.std.specs.Prelude.{◌≡◌};
+ghost use Rattle.std.specs.Prelude.{◌≡◌, Ok};
+ghost use Rattle.bao_config.specs.Answer.{spelled};
+ghost use Rattle.report.specs.Sample.{sample};
 ghost use Rattle.bao_run.specs.Ruling.{is_sample};
 
 /// The text of the one configuration that is accepted today.
@@ -29,3 +31,9 @@ pub fn is_sample(bytes: &[u8]) -> bool
 {
     bytes == SAMPLE_TEXT
 }
+
+/// The accepted text spells the configuration of which model and report speak. The function does nothing; its contract is
+/// the law.
+pub fn the_sample_text_spells_the_sample()
+    ensures { spelled SAMPLE_TEXT.now ≡ Ok sample }
+{}

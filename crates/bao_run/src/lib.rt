@@ -13,9 +13,7 @@ mod sure;
 mod top;
 mod words;
 
-pub use packing::{
-    a_core_steps_as_in_the_model, entries_have_the_verdicts_of_the_map,
-    the_packing_realises_the_map,
-};
+pub use config::the_sample_text_spells_the_sample;
+pub use packing::{a_core_steps_as_in_the_model, the_packing_realises_the_map};
 pub use sure::complete_over_a_sure_shelf;
 pub use top::run_bao;

@@ -1,19 +1,13 @@
 ghost use Rattle.bao_wellformed.specs.Map.{class_of};
 ghost use Rattle.report.specs.Sample.{sample};
 ghost use Rattle.bao_run.specs.Sample.{sample_packing};
-ghost use Rattle.bao_run.specs.Packing.{Realises};
-ghost use Rattle.bao_run.specs.Steps.{StepsAlike, VerdictsAlike};
+ghost use Rattle.mpu_packer.specs.Packing.{Realises};
+ghost use Rattle.bao_run.specs.Steps.{StepsAlike};
 
 /// The entries that core 0 is given realise the configuration's map. The function does nothing; its contract is the law.
 #[tactic(auto, using(crate::proofs::Refines::realises))]
 pub fn the_packing_realises_the_map()
     ensures { Realises sample_packing (class_of sample 0) }
-{}
-
-/// Entries that realise a configuration's map have for each access to each byte the verdict of the map. The function does
-/// nothing; its contract is the law.
-pub fn entries_have_the_verdicts_of_the_map()
-    ensures { VerdictsAlike }
 {}
 
 /// Where a board has the shape of a configuration, and the entries of a core realise its map, a step of the core on the

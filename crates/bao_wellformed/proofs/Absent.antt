@@ -13,7 +13,9 @@ use Rattle.bao_config.specs.declared.config.Dev.{Dev}
 use Rattle.bao_config.specs.Data.{ConfigData, IpcData, VmData}
 use Rattle.bao_wellformed.specs.declared.piece.Piece.{Piece}
 use Rattle.bao_wellformed.specs.Break.{indexed, pairs}
-use Rattle.bao_wellformed.specs.Map.{MapEntry, Port, Window, map_of, region_entry, dev_entry, ipc_entry, guard_entry, kind_at, kind_of}
+use Rattle.bao_wellformed.specs.declared.map.Kind.TheVariants.{Port, Window}
+use Rattle.bao_wellformed.specs.declared.map.MapEntry.{MapEntry}
+use Rattle.bao_wellformed.specs.Map.{map_of, region_entry, dev_entry, ipc_entry, guard_entry, kind_at, kind_of}
 use Rattle.bao_wellformed.specs.Rules.{are_too_near, distributor, frame, lies_in_a_bank, pieces, plain, redistributors, regions_of_the_hypervisor, regions_outside}
 use Rattle.bao_wellformed.specs.ByteRules.{is_present}
 use Rattle.bao_wellformed.specs.Laws.{IsVm, FramesAbsent, HypervisorAbsent}

@@ -5,7 +5,8 @@ use Rattle.std.proofs.lemmas.List.Folds.{list_any-append}
 use Rattle.bao_config.specs.Data.{ConfigData, VmData}
 use Rattle.bao_wellformed.specs.declared.ill.Ill.{Ill}
 use Rattle.bao_wellformed.specs.Break.{pairs, indexed}
-use Rattle.bao_wellformed.specs.Map.{MapEntry, map_of, kind_at}
+use Rattle.bao_wellformed.specs.declared.map.MapEntry.{MapEntry}
+use Rattle.bao_wellformed.specs.Map.{map_of, kind_at}
 use Rattle.bao_wellformed.specs.ByteRules.{bounds_of, clashes, is_clash, is_one_shmem, is_present, kind_in, least_clash, shmem_of}
 use Rattle.bao_wellformed.specs.Laws.{IsLeast, IsVm, MapsApart}
 use Rattle.bao_wellformed.proofs.Bytes.{kind_changes}

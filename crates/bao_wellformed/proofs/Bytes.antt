@@ -6,7 +6,8 @@ use Rattle.std.proofs.lemmas.List.{reverse-append}
 use Rattle.std.proofs.lemmas.List.Elements.{All-append, All-cons, All-head, All-nil, All-tail}
 use Rattle.bao_types.specs.declared.range.ByteRange.{ByteRange}
 use Rattle.bao_types.specs.ByteRange.{end, is_within}
-use Rattle.bao_wellformed.specs.Map.{MapEntry, kind_of}
+use Rattle.bao_wellformed.specs.declared.map.MapEntry.{MapEntry}
+use Rattle.bao_wellformed.specs.Map.{kind_of}
 use Rattle.bao_wellformed.specs.ByteRules.{bounds_of, kind_in}
 use Rattle.bao_wellformed.proofs.Least.{ChangesOnlyAt, is_listed}
 

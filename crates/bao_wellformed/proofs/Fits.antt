@@ -13,7 +13,9 @@ use Rattle.bao_config.specs.Fits.{ConfigFits, IpcFits, PortFits, RangeFits, Regi
 use Rattle.bao_wellformed.specs.declared.claim.Claimed.{Claimed}
 use Rattle.bao_wellformed.specs.declared.claim.Claimed.TheVariants.{Cores, Ports, Shmems, Irqs}
 use Rattle.bao_wellformed.specs.Claims.{numbers_of}
-use Rattle.bao_wellformed.specs.Map.{MapEntry, Port, Window, map_of, region_entry, dev_entry, ipc_entry, guard_entry}
+use Rattle.bao_wellformed.specs.declared.map.Kind.TheVariants.{Port, Window}
+use Rattle.bao_wellformed.specs.declared.map.MapEntry.{MapEntry}
+use Rattle.bao_wellformed.specs.Map.{map_of, region_entry, dev_entry, ipc_entry, guard_entry}
 
 -- what holds of each element as it is seen holds of one that was read
 pub viewed_fits : {A B : Type 0} (Fits : B → Type 0) (view : A → B) (xs : List A) (i : ℕ) (x : A) → i < length xs → x ≡ get_or xs i x

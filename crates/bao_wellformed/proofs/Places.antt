@@ -7,7 +7,8 @@ use Rattle.bao_types.specs.declared.range.ByteRange.{ByteRange}
 use Rattle.bao_types.specs.ByteRange.{address_space_end, end, is_within}
 use Rattle.bao_types.specs.Shape.{port_range}
 use Rattle.bao_config.specs.Data.{ConfigData, VmData}
-use Rattle.bao_wellformed.specs.Map.{MapEntry, map_of}
+use Rattle.bao_wellformed.specs.declared.map.MapEntry.{MapEntry}
+use Rattle.bao_wellformed.specs.Map.{map_of}
 use Rattle.bao_wellformed.specs.Break.{indexed}
 use Rattle.bao_wellformed.specs.Rules.{all_ranges, distributor, redistributors, vm_ranges}
 use Rattle.bao_wellformed.specs.ByteRules.{bounds_of, is_lacking, is_ram, kind_in, least_lacking, place_not_ram, start_not_executable, first_instruction, is_clash}

@@ -8,7 +8,10 @@ use Rattle.bao_config.specs.Data.{ConfigData, VmData}
 use Rattle.bao_wellformed.specs.declared.ill.Ill.{Ill}
 use Rattle.bao_types.specs.ByteRange.{is_within, end}
 use Rattle.bao_wellformed.specs.Break.{broken, no_range, in_each_vm, in_each_two_vms}
-use Rattle.bao_wellformed.specs.Map.{Kind, Ram, Port, Window, Hole, MapEntry, map_of, kind_of}
+use Rattle.bao_wellformed.specs.declared.map.Kind.{Kind}
+use Rattle.bao_wellformed.specs.declared.map.Kind.TheVariants.{Ram, Port, Window, Hole}
+use Rattle.bao_wellformed.specs.declared.map.MapEntry.{MapEntry}
+use Rattle.bao_wellformed.specs.Map.{map_of, kind_of}
 
 abbrev pub lesser : ℕ → Option ℕ → ℕ
 lesser at None = at

@@ -5,7 +5,8 @@ use Rattle.bao_types.specs.declared.range.ByteRange.{ByteRange}
 use Rattle.bao_types.specs.ByteRange.{address_space_end, end, is_within}
 use Rattle.bao_config.specs.Data.{ConfigData, VmData}
 use Rattle.bao_config.specs.Fits.{ConfigFits}
-use Rattle.bao_wellformed.specs.Map.{MapEntry, map_of, kind_at, has_core, has_port}
+use Rattle.bao_wellformed.specs.declared.map.MapEntry.{MapEntry}
+use Rattle.bao_wellformed.specs.Map.{map_of, kind_at, has_core, has_port}
 use Rattle.bao_wellformed.specs.Rules.{distributor, redistributors}
 use Rattle.bao_wellformed.specs.ByteRules.{least_lacking, least_clash, is_lacking, is_clash, is_ram, is_present, first_instruction, kind_in, shmem_of}
 use Rattle.bao_wellformed.specs.WellFormed.{IsWellFormed}

@@ -5,7 +5,9 @@ use Rattle.std.specs.List.{list_any}
 use Rattle.std.proofs.lemmas.Bool.Decides.{nat_tests}
 use Rattle.bao_config.specs.Data.{ConfigData, VmData}
 use Rattle.bao_config.specs.declared.config.Dev.{Dev}
-use Rattle.bao_wellformed.specs.Map.{Kind, Ram, Port, Window, Hole, kind_at, has_core, has_port}
+use Rattle.bao_wellformed.specs.declared.map.Kind.{Kind}
+use Rattle.bao_wellformed.specs.declared.map.Kind.TheVariants.{Ram, Port, Window, Hole}
+use Rattle.bao_wellformed.specs.Map.{kind_at, has_core, has_port}
 use Rattle.board.specs.Machine.{core_at}
 use Rattle.board.specs.View.{view_of}
 use Rattle.vm_model.specs.Flat.{Flat, flat_run}

@@ -4,7 +4,9 @@ use Rattle.std.specs.List.{list_all}
 use Rattle.board.specs.declared.view.CoreView.{CoreView}
 use Rattle.bao_config.specs.Data.{ConfigData, VmData}
 use Rattle.bao_config.specs.declared.config.Dev.{Dev}
-use Rattle.bao_wellformed.specs.Map.{Kind, Ram, Port, Window, Hole, kind_at}
+use Rattle.bao_wellformed.specs.declared.map.Kind.{Kind}
+use Rattle.bao_wellformed.specs.declared.map.Kind.TheVariants.{Ram, Port, Window, Hole}
+use Rattle.bao_wellformed.specs.Map.{kind_at}
 use Rattle.board.specs.Machine.{core_at}
 use Rattle.board.specs.View.{view_of}
 use Rattle.vm_model.specs.Flat.{Flat, Power, On, Off}

@@ -7,7 +7,9 @@ use Rattle.bao_types.specs.declared.access.Class.TheVariants.{Hyp}
 use Rattle.a64_state.specs.Registers.{reset_core}
 use Rattle.bao_config.specs.Data.{ConfigData, VmData}
 use Rattle.bao_types.specs.ByteRange.{is_within}
-use Rattle.bao_wellformed.specs.Map.{Kind, Ram, Port, Window, Hole, is_platform_port, kind_at, grant, guest_class, has_core, owner}
+use Rattle.bao_wellformed.specs.declared.map.Kind.{Kind}
+use Rattle.bao_wellformed.specs.declared.map.Kind.TheVariants.{Ram, Port, Window, Hole}
+use Rattle.bao_wellformed.specs.Map.{is_platform_port, kind_at, grant, guest_class, has_core, owner}
 use Rattle.bao_wellformed.specs.Map.{verdict_of, by_map}
 use Rattle.board.specs.Attempt.{is_allowed, reaches, reach_of, attempt, core_of, stored_of}
 use Rattle.board.specs.Machine.{core_at, written}

@@ -1,7 +1,9 @@
 -- When two flat machines are the same to a VM.
 use Rattle.std.specs.Prelude.{◌≡◌, ℕ, Bool, true, false, IsTrue, length, slice_get}
 use Rattle.bao_config.specs.Data.{ConfigData, VmData}
-use Rattle.bao_wellformed.specs.Map.{Kind, Ram, Port, Window, Hole, kind_at, has_core, has_port}
+use Rattle.bao_wellformed.specs.declared.map.Kind.{Kind}
+use Rattle.bao_wellformed.specs.declared.map.Kind.TheVariants.{Ram, Port, Window, Hole}
+use Rattle.bao_wellformed.specs.Map.{kind_at, has_core, has_port}
 use Rattle.board.specs.Machine.{core_at}
 use Rattle.vm_model.specs.Flat.{Flat}
 

@@ -2,7 +2,9 @@
 use Rattle.std.specs.Prelude.{ℕ, ◌==◌, Bool, true, false, if◌then◌else◌, List, [], ◌∷◌, ◌++◌, filter, Option, None, Some, slice_get, option_to_list}
 use Rattle.std.specs.List.{position_from}
 use Rattle.bao_config.specs.Data.{ConfigData, VmData}
-use Rattle.bao_wellformed.specs.Map.{Kind, Ram, Port, Window, Hole, kind_at, has_core}
+use Rattle.bao_wellformed.specs.declared.map.Kind.{Kind}
+use Rattle.bao_wellformed.specs.declared.map.Kind.TheVariants.{Ram, Port, Window, Hole}
+use Rattle.bao_wellformed.specs.Map.{kind_at, has_core}
 use Rattle.board.specs.Attempt.{stored_of}
 use Rattle.vm_model.specs.Flat.{Flat, FlatEvent, Step, Wrote, runs, flat_attempt, flat_step, flat_run}
 use Rattle.vm_model.specs.Boot.{boot}

@@ -6,7 +6,10 @@
 //! contract of a function that does nothing.
 #![tactic(auto)]
 
-pub use alone::a_vm_runs_as_if_alone;
+pub use alone::{
+    a_view_has_nothing_else, a_vm_runs_as_if_alone, a_vm_steps_as_if_alone,
+    others_only_write_windows,
+};
 pub use pair::{an_overlap_is_not_apart, the_pair_is_apart, what_the_pair_sees};
 
 mod alone;

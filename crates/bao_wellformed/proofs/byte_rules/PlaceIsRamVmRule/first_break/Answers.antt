@@ -2,7 +2,7 @@ use Rattle.std.proofs.Common.{◌^◌, ◌<◌, ◌∙◌, List, All, subst, sym
 use Rattle.bao_types.specs.ByteRange.{end}
 use Rattle.bao_config.specs.Config.{config_data}
 use Rattle.bao_config.specs.Data.{vm_data}
-use Rattle.bao_wellformed.specs.Map.{MapEntry}
+use Rattle.bao_wellformed.specs.declared.map.MapEntry.{MapEntry}
 use Rattle.bao_wellformed.proofs.Fits.{map_ends}
 use Rattle.bao_wellformed.proofs.byte_rules.PlaceIsRamVmRule.first_break.Goals as goal
 
