@@ -30,7 +30,9 @@ fn packing_text(alloc: Global, checked: &Checked, core: u8) -> Result<String, Al
     }
     match pack(alloc, checked, core) {
         Ok(plan) => plan_text(alloc, &plan),
-        Err(PackError::TooMany { runs, entries }) => format!(in alloc; "runs {runs} entries {entries}"),
+        Err(PackError::TooMany { runs, entries }) => format!(in alloc;
+            "runs {runs} entries {entries}"
+        ),
         Err(PackError::OutOfMemory) => Err(AllocError),
     }
 }
@@ -53,8 +55,11 @@ fn check_rows(rt: &impl Abort, alloc: Global, rows: &[Row]) -> Result<(), AllocE
 }
 
 const CORES: &str = "cores = [16, 16]";
+
 const REGION_A: &str = "regions = [{ base = 0x100000, size = 0x10000, access = \"rwx\" }]";
-const DEV_A: &str = "devs = [{ port = 0, irq = 40 }]\nipcs = [{ shmem = 0, access = \"rw\", irqs = [50, 51] }]\n";
+
+const DEV_A: &str =
+    "devs = [{ port = 0, irq = 40 }]\nipcs = [{ shmem = 0, access = \"rw\", irqs = [50, 51] }]\n";
 
 #[rattlefmt::skip]
 static ROWS: [Row; 10] = [

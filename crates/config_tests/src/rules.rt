@@ -33,12 +33,18 @@ fn check_rows(rt: &impl Abort, alloc: Global, rows: &[Row]) -> Result<(), AllocE
 }
 
 const BANK: &str = "banks = [{ base = 0x0, size = 0x200000 }]";
+
 const PORT_1: &str = "{ id = 1, base = 0x9c0a0000, spi = 33 }";
+
 const SHMEM: &str = "base = 0x180000\nsize = 0x1000\nevents = 2\n";
+
 const PLACE_B: &str = "load = 0x140000\nroom = 0x8000";
-const REGION_A: &str = "regions = [{ base = 0x100000, size = 0x10000, access = \"rwx\" }]";
+
+
 const REGION_B: &str = "regions = [{ base = 0x140000, size = 0x10000, access = \"rwx\" }]";
+
 const DEV_B: &str = "devs = [{ port = 1, irq = 40 }]";
+
 const IPC_B: &str = "ipcs = [{ shmem = 0, access = \"rw\", irqs = [60, 61] }]\n";
 
 #[rattlefmt::skip]

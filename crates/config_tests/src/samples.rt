@@ -62,8 +62,10 @@ pub(crate) fn checked(alloc: Global, text: &str) -> Option<Result<Checked, Check
 pub(crate) fn ill_text(alloc: Global, ill: &Ill) -> Result<String, AllocError> {
     let vm = number_text(alloc, ill.vm)?;
     let item = number_text(alloc, ill.item)?;
-    format!(in alloc; "rule {} vm {vm} item {item} 0x{:x}+0x{:x} 0x{:x}+0x{:x}",
-        ill.rule, ill.first.base, ill.first.size, ill.second.base, ill.second.size)
+    format!(in alloc;
+        "rule {} vm {vm} item {item} 0x{:x}+0x{:x} 0x{:x}+0x{:x}",
+        ill.rule, ill.first.base, ill.first.size, ill.second.base, ill.second.size
+    )
 }
 
 fn number_text(alloc: Global, number: u8) -> Result<String, AllocError> {
