@@ -11,9 +11,9 @@ use Rattle.bao_types.specs.declared.access.Access.{Access}
 use Rattle.bao_types.specs.declared.access.Access.TheVariants.{Read, Write, Exec}
 use Rattle.bao_types.specs.declared.access.Verdict.{Verdict}
 use Rattle.bao_types.specs.declared.access.Verdict.TheVariants.{Allow, Translation, Permission}
-pub use Rattle.bao_wellformed.specs.declared.map.Kind.{Kind}
-pub use Rattle.bao_wellformed.specs.declared.map.Kind.TheVariants.{Ram, Port, Window, Hole}
-pub use Rattle.bao_wellformed.specs.declared.map.MapEntry.{MapEntry}
+use Rattle.bao_wellformed.specs.declared.map.Kind.{Kind}
+use Rattle.bao_wellformed.specs.declared.map.Kind.TheVariants.{Ram, Port, Window, Hole}
+use Rattle.bao_wellformed.specs.declared.map.MapEntry.{MapEntry}
 use Rattle.bao_config.specs.declared.config.MapRegion.{MapRegion}
 use Rattle.bao_config.specs.declared.config.Dev.{Dev}
 use Rattle.bao_config.specs.Data.{ConfigData, VmData, IpcData}

@@ -40,8 +40,6 @@ const SHMEM: &str = "base = 0x180000\nsize = 0x1000\nevents = 2\n";
 
 const PLACE_B: &str = "load = 0x140000\nroom = 0x8000";
 
-const REGION_A: &str = "regions = [{ base = 0x100000, size = 0x10000, access = \"rwx\" }]";
-
 const REGION_B: &str = "regions = [{ base = 0x140000, size = 0x10000, access = \"rwx\" }]";
 
 const DEV_B: &str = "devs = [{ port = 1, irq = 40 }]";
