@@ -62,7 +62,7 @@ const DEV_A: &str =
     "devs = [{ port = 0, irq = 40 }]\nipcs = [{ shmem = 0, access = \"rw\", irqs = [50, 51] }]\n";
 
 #[rattlefmt::skip]
-static ROWS: [Row; 10] = [
+static ROWS: [Row; 11] = [
     ("memory, window and port", &[], 0, "2 ffc1 100004 10ffc1 180006 180fc1 9c090006 9c090003"),
     ("a smaller region of another access over a larger one",
         &[(REGION_A, "regions = [{ base = 0x100000, size = 0x10000, access = \"rwx\" }, { base = 0x100000, size = 0x1000, access = \"rx\" }]"), (DEV_A, ""), (CORES, "cores = [3, 16]")],
@@ -73,6 +73,9 @@ static ROWS: [Row; 10] = [
     ("two regions of equal access are one run",
         &[(REGION_A, "regions = [{ base = 0x100000, size = 0x8000, access = \"rwx\" }, { base = 0x108000, size = 0x8000, access = \"rwx\" }]"), (DEV_A, ""), (CORES, "cores = [2, 16]")],
         0, "2 ffc1 100004 10ffc1"),
+    ("memory of one granule",
+        &[("load = 0x100000\nroom = 0x8000", "load = 0x100000\nroom = 0x40"), (REGION_A, "regions = [{ base = 0x100000, size = 0x40, access = \"rwx\" }]"), (DEV_A, "")],
+        0, "2 ffc1 100004 100001"),
     ("a guard splits a region", &[(DEV_A, "guards = [{ base = 0x108000, size = 0x40 }]\n")], 0, "2 ffc1 100004 107fc1 108044 10ffc1"),
     ("a window behind memory of equal grant",
         &[(REGION_A, "regions = [{ base = 0x100000, size = 0x10000, access = \"rwx\" }, { base = 0x17f000, size = 0x1000, access = \"rw\" }]")],

@@ -47,7 +47,7 @@ const DEV_B: &str = "devs = [{ port = 1, irq = 40 }]";
 const IPC_B: &str = "ipcs = [{ shmem = 0, access = \"rw\", irqs = [60, 61] }]\n";
 
 #[rattlefmt::skip]
-static PLATFORM: [Row; 19] = [
+static PLATFORM: [Row; 21] = [
     ("the sample", &[], "ok"),
     ("a bank that ends above 2^48", &[(BANK, "banks = [{ base = 0x0, size = 0x200000 }, { base = 0xfffffffff000, size = 0x2000 }]")],
         "rule 1 vm - item - 0xfffffffff000+0x2000 0x0+0x0"),
@@ -56,6 +56,8 @@ static PLATFORM: [Row; 19] = [
         "rule 2 vm - item - 0x1000000+0x3e00040 0x0+0x0"),
     ("64 MiB", &[(BANK, "banks = [{ base = 0x0, size = 0x4000000 }]")], "ok"),
     ("two ports on one range", &[(PORT_1, "{ id = 1, base = 0x9c090000, spi = 33 }")],
+        "rule 3 vm - item - 0x9c090000+0x40 0x9c090000+0x40"),
+    ("the first port decides, not the first two that overlap", &[(PORT_1, "{ id = 1, base = 0x9c0a0000, spi = 33 }, { id = 2, base = 0x9c0a0000, spi = 34 }, { id = 3, base = 0x9c090000, spi = 35 }")],
         "rule 3 vm - item - 0x9c090000+0x40 0x9c090000+0x40"),
     ("a bank just below a frame", &[(BANK, "banks = [{ base = 0x0, size = 0x200000 }, { base = 0xaeffffc0, size = 0x40 }]")],
         "rule 3 vm - item - 0xaeffffc0+0x40 0xaf000000+0x10000"),
@@ -77,6 +79,8 @@ static PLATFORM: [Row; 19] = [
     ("a shared memory behind the hypervisor's range", &[(SHMEM, "base = 0x10000\nsize = 0x1000\nevents = 2\n")], "ok"),
     ("two shared memories on one byte", &[(SHMEM, "base = 0x180000\nsize = 0x1000\nevents = 2\n[[shmem]]\nbase = 0x180fc0\nsize = 0x1000\nevents = 1\n")],
         "rule 8 vm - item - 0x180000+0x1000 0x180fc0+0x1000"),
+    ("the first shared memory decides", &[(SHMEM, "base = 0x180000\nsize = 0x1000\nevents = 2\n[[shmem]]\nbase = 0x190000\nsize = 0x1000\nevents = 1\n[[shmem]]\nbase = 0x190fc0\nsize = 0x1000\nevents = 1\n[[shmem]]\nbase = 0x180fc0\nsize = 0x1000\nevents = 1\n")],
+        "rule 8 vm - item - 0x180000+0x1000 0x180fc0+0x1000"),
     ("two shared memories beside one another", &[(SHMEM, "base = 0x180000\nsize = 0x1000\nevents = 2\n[[shmem]]\nbase = 0x181000\nsize = 0x1000\nevents = 1\n")], "ok"),
 ];
 
@@ -87,7 +91,7 @@ fn rules_of_the_platform(rt: HostRuntime) -> Result<(), Fail> {
 }
 
 #[rattlefmt::skip]
-static VMS: [Row; 17] = [
+static VMS: [Row; 19] = [
     ("two VMs of one name", &[("name = \"b\"", "name = \"a\"")], "rule 9 vm 1 item 0 0x0+0x0 0x0+0x0"),
     ("one name, and a core that isn't there", &[("name = \"b\"", "name = \"a\""), ("cores = [1]", "cores = [2]")],
         "rule 9 vm 1 item 0 0x0+0x0 0x0+0x0"),
@@ -102,9 +106,13 @@ static VMS: [Row; 17] = [
     ("a region behind the hypervisor's range", &[(REGION_B, "regions = [{ base = 0x140000, size = 0x10000, access = \"rwx\" }, { base = 0x10000, size = 0x40, access = \"r\" }]")], "ok"),
     ("a dev without a port", &[(DEV_B, "devs = [{ port = 2, irq = 40 }]")], "rule 14 vm 1 item 0 0x0+0x0 0x0+0x0"),
     ("one port in two VMs", &[(DEV_B, "devs = [{ port = 1, irq = 40 }, { port = 0, irq = 41 }]")], "rule 15 vm 1 item 1 0x0+0x0 0x0+0x0"),
+    ("the first dev decides", &[(DEV_B, "devs = [{ port = 1, irq = 40 }, { port = 1, irq = 41 }, { port = 0, irq = 42 }]")],
+        "rule 15 vm 1 item 2 0x0+0x0 0x0+0x0"),
     ("an ipc without a shared memory", &[(IPC_B, "ipcs = [{ shmem = 1, access = \"rw\", irqs = [60, 61] }]\n")], "rule 16 vm 1 item 0 0x0+0x0 0x0+0x0"),
     ("two windows on one shared memory", &[(IPC_B, "ipcs = [{ shmem = 0, access = \"rw\", irqs = [60, 61] }, { shmem = 0, access = \"r\", irqs = [62, 63] }]\n")],
         "rule 17 vm 1 item 1 0x0+0x0 0x0+0x0"),
+    ("the first window decides", &[(SHMEM, "base = 0x180000\nsize = 0x1000\nevents = 2\n[[shmem]]\nbase = 0x190000\nsize = 0x1000\nevents = 1\n"), (IPC_B, "ipcs = [{ shmem = 0, access = \"r\", irqs = [60, 61] }, { shmem = 1, access = \"r\", irqs = [62] }, { shmem = 1, access = \"r\", irqs = [63] }, { shmem = 0, access = \"r\", irqs = [64, 65] }]\n")],
+        "rule 17 vm 1 item 3 0x0+0x0 0x0+0x0"),
     ("an irq too few", &[(IPC_B, "ipcs = [{ shmem = 0, access = \"rw\", irqs = [60] }]\n")], "rule 18 vm 1 item 0 0x0+0x0 0x0+0x0"),
     ("an irq of a dev and of a window", &[(IPC_B, "ipcs = [{ shmem = 0, access = \"rw\", irqs = [60, 40] }]\n")], "rule 19 vm 1 item 2 0x0+0x0 0x0+0x0"),
     ("an irq three times", &[(DEV_B, "devs = [{ port = 1, irq = 60 }]"), (IPC_B, "ipcs = [{ shmem = 0, access = \"rw\", irqs = [60, 60] }]\n")],
