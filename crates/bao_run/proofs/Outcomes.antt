@@ -84,9 +84,10 @@ module _ (call : Call) (config schedule : List ℕ) (command : command_of call.w
     schedule = schedule;
     run = command;
     is_file = h.0;
+    first = h.1;
     told = follows call.shelf.held (λ files. IsReached sample (rule files) file) (λ files. IsReached sample (ruling call.words files) file)
-        (λ files e. rw (ruling_by call.words files (Run config schedule) command) e) h.1;
-    failed = h.2;
+        (λ files e. rw (ruling_by call.words files (Run config schedule) command) e) h.2;
+    failed = h.3;
     refused = record { board = board; line = line };
   }
   refused_input (status.TooLong file limit) unfitted board h line = (

@@ -1,5 +1,5 @@
 -- What reading the files of a run answers.
-use Rattle.std.specs.Prelude.{◌≡◌, ℕ, ◌+◌, ◌<◌, ◌≤◌, List, [], ◌∷◌, All, Vec, Option, Some, None, Result, Ok, Err, IsSomeAnd, map, length, slice_get, unwrap_or, ⊤}
+use Rattle.std.specs.Prelude.{◌≡◌, ◌≢◌, ℕ, ◌+◌, ◌<◌, ◌≤◌, List, [], ◌∷◌, All, Vec, Option, Some, None, Result, Ok, Err, IsSomeAnd, map, length, slice_get, unwrap_or, ⊤}
 use Rattle.std.specs.declared.alloc.Global.{Global}
 use Rattle.std.specs.Option.{option_map}
 use Rattle.bao_types.specs.Shape.{event_limit}
@@ -67,6 +67,12 @@ name_of cfg config schedule file.Config = config
 name_of cfg config schedule (file.Image vm) = unwrap_or (option_map (λ vm. vm.image) (slice_get cfg.vms vm)) []
 name_of cfg config schedule file.Schedule = schedule
 
+-- no file that is read before it has its name
+abbrev pub IsFirstOfName : ConfigData → List ℕ → List ℕ → FileId → Type 0
+IsFirstOfName cfg config schedule file =
+    (other : FileId) → IsFileOf cfg other → place_of cfg other < place_of cfg file
+    → name_of cfg config schedule other ≢ name_of cfg config schedule file
+
 -- a part of the input that is found not to be built while the files are read
 abbrev pub IsPartOfFiles : Part → Type 0
 IsPartOfFiles part.Words = ⊥
@@ -79,13 +85,14 @@ abbrev pub IsToldRuling : ShelfUse → List ℕ → List ℕ → Ruling → Type
 IsToldRuling shelf config schedule decided =
     IfHeld shelf.held (λ files. rule_config files schedule (files config) ≡ decided)
 
--- A refusal while the files of these names are read, by its status: a fault of the shelf at a file whose turn it was; what the
--- told contents rule; or want of memory.
+-- A refusal while the files of these names are read, by its status: a fault of the shelf at a file whose turn it was, the first
+-- of its name; what the told contents rule; or want of memory.
 abbrev pub IsRefused : ShelfUse → List ℕ → List ℕ → Status → Type 0
 IsRefused shelf config schedule status.Done = ⊥
 IsRefused shelf config schedule status.Usage = ⊥
 IsRefused shelf config schedule (status.ReadFault file) =
     IsFileOf sample file
+    × IsFirstOfName sample config schedule file
     × IfHeld shelf.held (λ files. IsReached sample (rule_config files schedule (files config)) file)
     × HasFailed shelf (name_of sample config schedule file)
 IsRefused shelf config schedule (status.TooLong file limit) =
@@ -117,9 +124,10 @@ abbrev pub IsAnswer : ShelfUse → List ℕ → List ℕ → Result Input Status
 IsAnswer shelf config schedule (Ok input) = IsInput shelf config schedule input
 IsAnswer shelf config schedule (Err status) = IsRefused shelf config schedule status
 
--- a file to be read, its name, and how many bytes it may have
+-- a file to be read, its name, the file that a fault is told of, and how many bytes it may have
 pub record Wanted : Type 0 where
   pub file : FileId
+  pub blamed : FileId
   pub name : List ℕ
   pub limit : ℕ
 
@@ -130,7 +138,7 @@ IsFetch shelf wanted (Ok bytes) =
     × IsFaultless shelf
 IsFetch shelf wanted (Err status.Done) = ⊥
 IsFetch shelf wanted (Err status.Usage) = ⊥
-IsFetch shelf wanted (Err (status.ReadFault file)) = (file ≡ wanted.file) × HasFailed shelf wanted.name
+IsFetch shelf wanted (Err (status.ReadFault file)) = (file ≡ wanted.blamed) × HasFailed shelf wanted.name
 IsFetch shelf wanted (Err (status.TooLong file limit)) =
     IfTold shelf.held wanted.name (λ content. IsSomeAnd content (λ bytes. wanted.limit < length bytes))
     × (file ≡ wanted.file) × (limit ≡ wanted.limit) × IsFaultless shelf

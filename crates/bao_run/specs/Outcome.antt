@@ -14,7 +14,7 @@ use Rattle.vm_model.specs.Lone.{only, lone}
 use Rattle.bao_run.specs.Words.{Run, Unbuilt, Unknown, command_of}
 use Rattle.bao_run.specs.Call.{InputData, Call, IsFaultless, HasFailed, IsPut}
 use Rattle.bao_run.specs.Ruling.{Refused, Accept, ruling}
-use Rattle.bao_run.specs.Input.{IfHeld, IsFileOf, IsReached, name_of}
+use Rattle.bao_run.specs.Input.{IfHeld, IsFileOf, IsFirstOfName, IsReached, name_of}
 use Rattle.bao_run.specs.Schedule.{schedule_of}
 use Rattle.bao_run.specs.Play.{IsUnfitted, IsPlayed}
 
@@ -49,12 +49,13 @@ pub record IsRuled (call : Call) (status : Status) : Type 0 where
   pub read : IsFaultless call.shelf
   pub refused : IsRefusedAtOnce call status
 
--- the shelf failed at a file whose turn it was
+-- the shelf failed at a file whose turn it was, the first of its name
 pub record IsReadFault (call : Call) (file : FileId) : Type 0 where
   pub config : List ℕ
   pub schedule : List ℕ
   pub run : command_of call.words ≡ Run config schedule
   pub is_file : IsFileOf sample file
+  pub first : IsFirstOfName sample config schedule file
   pub told : IfHeld call.shelf.held (λ files. IsReached sample (ruling call.words files) file)
   pub failed : HasFailed call.shelf (name_of sample config schedule file)
   pub refused : IsRefusedAtOnce call (status.ReadFault file)

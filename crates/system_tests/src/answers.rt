@@ -275,6 +275,31 @@ fn a_file_that_is_missing(rt: HostRuntime) -> Result<(), Fail> {
     check(&rt, alloc, "a schedule that is missing", &case, wanted)
 }
 
+/// A schedule that has the name of another file, where the third call fails: the first file of the name is told.
+static FILES_OF_ONE_NAME: [(&str, &str); 3] = [
+    ("config.toml", "read fault config\n"),
+    ("a.bin", "read fault image 0\n"),
+    ("schedule.txt", "read fault schedule\n"),
+];
+
+fn check_name(rt: &impl Abort, alloc: Global, schedule: &str, line: &str) -> Result<(), Fail> {
+    let image = image_of(alloc, &FIVE)?;
+    let words = ["run", "config.toml", schedule];
+    let mut case = case_of(&image, b"");
+    case.words = &words;
+    case.failing_calls = &[3];
+    let wanted = format!(in alloc; "status 3 entered 0 calls 3 faults 1\n{line}")?;
+    check(rt, alloc, schedule, &case, &wanted)
+}
+
+#[test]
+fn files_of_one_name(rt: HostRuntime) -> Result<(), Fail> {
+    for (schedule, line) in FILES_OF_ONE_NAME.as_slice() {
+        check_name(&rt, rt.alloc(), schedule, line)?;
+    }
+    Ok(())
+}
+
 /// The puts of the report of `FIVE` after one step, in order.
 static PUTS: [&str; 10] = [
     "vm a\n",
