@@ -340,7 +340,11 @@ fn a_sink_that_fails(rt: HostRuntime) -> Result<(), Fail> {
 fn a_sure_shelf_and_two_runs(rt: HostRuntime) -> Result<(), Fail> {
     let alloc = rt.alloc();
     for _ in 0..2 {
-        let names = strings(alloc, &["config.toml", "a.bin", "schedule.txt"])?;
+        let names = vec![in alloc;
+            String::from_str(alloc, "config.toml")?,
+            String::from_str(alloc, "a.bin")?,
+            String::from_str(alloc, "schedule.txt")?,
+        ]?;
         let contents = vec![in alloc;
             CONFIG.as_bytes().to_vec(alloc)?,
             image_of(alloc, &FIVE)?,

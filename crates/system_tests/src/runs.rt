@@ -88,7 +88,11 @@ pub(crate) fn steps(alloc: Global, count: u32) -> Result<Vec<u8>, Fail> {
 /// and failed; and below that the text that the sink took.
 pub(crate) fn told(alloc: Global, case: &Case) -> Result<String, Fail> {
     let words = strings(alloc, case.words)?;
-    let names = strings(alloc, &["config.toml", "a.bin", "schedule.txt"])?;
+    let names = vec![in alloc;
+        String::from_str(alloc, "config.toml")?,
+        String::from_str(alloc, "a.bin")?,
+        String::from_str(alloc, "schedule.txt")?,
+    ]?;
     let contents = vec![in alloc;
         case.config.to_vec(alloc)?,
         case.image.to_vec(alloc)?,
