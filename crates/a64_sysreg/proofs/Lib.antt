@@ -1,0 +1,3 @@
+mod Undefined
+mod Kept
+mod Regions
