@@ -2,7 +2,6 @@
 use Rattle.std.proofs.Common.{◌≡◌, ℕ, zero, suc, List, [], ◌∷◌, get_or, refl, sym, subst}
 use Rattle.std.specs.List.{All, AllByRecursion as ByRecursion}
 use Rattle.std.proofs.lemmas.List.Elements.{All-set, recursion_from_All}
-use Rattle.bao_types.specs.declared.region.Region.{Region}
 use Rattle.bao_types.specs.Region.{IsWithinMasks, kept_base, kept_limit}
 use Rattle.bao_types.specs.RegionFile.{RegionFileData}
 use Rattle.pmsa_regs.specs.RegionRegs.{selected, with_base, with_limit}

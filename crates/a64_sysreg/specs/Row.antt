@@ -2,6 +2,8 @@
 use Rattle.std.specs.Prelude.{ℕ, Bool, true, false, ◌&&◌, ◌==◌, nat_le, if◌then◌else◌}
 use Rattle.bao_types.specs.declared.sys_id.SysId.{SysId}
 use Rattle.a64_state.specs.Core.{CoreData}
+use Rattle.a64_state.specs.Mode.{number_of}
+use Rattle.a64_state.specs.declared.mode.Mode.TheVariants.{El0t, El1h}
 use Rattle.a64_state.specs.declared.registers.SysRegs.{SysRegs}
 use Rattle.a64_sysreg.specs.declared.rights.Rights.{Rights}
 use Rattle.a64_sysreg.specs.declared.rights.Rights.TheVariants.{Nothing, Read, Write, ReadWrite}
@@ -45,15 +47,15 @@ allows_write ReadWrite = true
 
 -- EL0 has no access
 abbrev pub at_el1 : Rights → ℕ → Rights
-at_el1 rights mode = if mode == 0 then Nothing else rights
+at_el1 rights mode = if mode == number_of El0t then Nothing else rights
 
 -- nor has EL1 with SP_EL0
 abbrev pub with_own_sp : Rights → ℕ → Rights
-with_own_sp rights mode = if mode == 5 then rights else Nothing
+with_own_sp rights mode = if mode == number_of El1h then rights else Nothing
 
 -- EL0 only reads
 abbrev pub read_at_el0 : Rights → ℕ → Rights
-read_at_el0 rights mode = if mode == 0 then Read else rights
+read_at_el0 rights mode = if mode == number_of El0t then Read else rights
 
 -- EL0 has the same access as EL1
 abbrev pub everywhere : Rights → ℕ → Rights

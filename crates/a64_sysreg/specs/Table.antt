@@ -2,7 +2,7 @@
 -- the GICv3 architecture for ICC registers): an equation a register, in the order of their numbers. Each says the number;
 -- who has access; what a read gives; and what a write leaves. That the identification registers read as zero, and which
 -- registers there are, is our own choice.
-use Rattle.std.specs.Prelude.{ℕ, ◌+◌, ◌*◌, ◌^◌, if◌then◌else◌, Bool, ◌==◌, ◌&&◌, ◌||◌, List, [], ◌∷◌, Option}
+use Rattle.std.specs.Prelude.{◌≡◌, IsTrue, ◌+◌, ◌*◌, ◌^◌, Bool, ◌==◌, ◌&&◌, ◌||◌, List, [], ◌∷◌, Option, Some}
 use Rattle.std.specs.List.{find}
 use Rattle.bao_types.specs.Bits.{field}
 use Rattle.bao_types.specs.declared.sys_id.SysId.{SysId}
@@ -93,6 +93,11 @@ registers =
 -- the register with this number
 unfoldable pub register_of : SysId → Option Register
 register_of id = find (λ register. (row register).number id) registers
+
+-- a number names one register at most, and each register is named by its numbers
+abbrev pub NumbersAreDistinct : Type 0
+NumbersAreDistinct =
+    (register : Register) (id : SysId) → IsTrue ((row register).number id) → register_of id ≡ Some register
 
 -- ICC_PMR_EL1, and the registers with CRn 12 and CRm 11 or 12
 abbrev pub is_of_interface : SysId → Bool

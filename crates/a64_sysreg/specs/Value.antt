@@ -3,10 +3,8 @@ use Rattle.std.specs.Prelude.{ℕ, ◌+◌, ◌-◌, ◌*◌, ◌%◌, ◌^◌, 
 use Rattle.bao_types.specs.Bits.{field}
 use Rattle.bao_types.specs.declared.interface.TimerRegs.{TimerRegs}
 use Rattle.a64_state.specs.Core.{CoreData}
-use Rattle.a64_state.specs.Pstate.{with_flags, with_daif}
 use Rattle.a64_state.specs.Mode.{with_mode}
 use Rattle.a64_state.specs.declared.mode.Mode.TheVariants.{El1t, El1h}
-use Rattle.a64_state.specs.declared.registers.SysRegs.{SysRegs}
 use Rattle.generic_timer.specs.Timer.{meets_condition}
 
 -- the bits from `low` to `high` of a value, at their places

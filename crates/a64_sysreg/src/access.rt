@@ -104,6 +104,9 @@ pub fn may_write(core: &Core, id: SysId) -> bool
 
 /// Whether a register, by its number, is one that the machine doesn't have yet: those of the interrupt interface, and
 /// those of the timer. Whether there is such a register at all is asked before.
+///
+/// [`read_sys`] and [`write_sys`] have these registers but for the four whose meaning is the interface's, which answer
+/// Unbuilt.
 pub fn is_unbuilt(id: SysId) -> bool
     ensures { result ≡ is_unbuilt_number id }
 {

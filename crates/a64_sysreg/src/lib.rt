@@ -6,7 +6,7 @@
 #![tactic(auto)]
 
 pub use access::{SysRead, SysWrite, is_unbuilt, may_read, may_write, read_sys, write_sys};
-pub use register::Register;
+pub use register::{Register, numbers_are_distinct};
 pub use rights::Rights;
 
 mod access;

@@ -2,7 +2,7 @@
 
 ghost use Rattle.std.specs.Prelude.{◌≡◌};
 ghost use Rattle.a64_sysreg.specs.Row.{numbered, is_identification as is_identification_number};
-ghost use Rattle.a64_sysreg.specs.Table.{row, register_of as register_in};
+ghost use Rattle.a64_sysreg.specs.Table.{row, register_of as register_in, NumbersAreDistinct};
 
 use bao_types::SysId;
 
@@ -149,6 +149,12 @@ pub(crate) fn register_of(id: SysId) -> Option<Register>
     }
     None
 }
+
+/// A number names one register at most, and each register is named by its numbers. The function does nothing; its contract
+/// is the law.
+pub fn numbers_are_distinct()
+    ensures { NumbersAreDistinct }
+{}
 
 impl Register {
     /// Whether this is its number, or one of its numbers.

@@ -3,14 +3,16 @@ use Rattle.std.specs.Prelude.{ℕ, ◌+◌, ◌==◌, if◌then◌else◌, false
 use Rattle.a64_state.specs.Core.{CoreData}
 use Rattle.a64_state.specs.Pstate.{mode}
 use Rattle.a64_state.specs.Parts.{parts_of}
+use Rattle.a64_state.specs.Mode.{number_of}
+use Rattle.a64_state.specs.declared.mode.Mode.TheVariants.{El1t, El1h}
 use Rattle.exceptions.specs.declared.entry.Cause.{Cause}
 use Rattle.exceptions.specs.declared.entry.Cause.TheVariants.{Sync, Irq}
 use Rattle.exceptions.specs.Assembled.{pstate_of}
 
--- the vectors of an exception, as an offset from VBAR_EL1, by where it comes from: EL1 with SP_EL0, EL1 with its own stack
--- pointer, or EL0
+-- the vectors of an exception, as an offset from VBAR_EL1, by the mode that it comes from: EL1 with SP_EL0, EL1 with its
+-- own stack pointer, or EL0
 abbrev pub vectors_of : ℕ → ℕ
-vectors_of from = if from == 4 then 0x000 else if from == 5 then 0x200 else 0x400
+vectors_of from = if from == number_of El1t then 0x000 else if from == number_of El1h then 0x200 else 0x400
 
 -- and among these the vector of its cause
 abbrev pub vector_of : Cause → ℕ
@@ -35,7 +37,7 @@ fault_address_after core Irq = core.sys.far
 
 -- PSTATE after an entry: EL1 with its own stack pointer, D, A, I and F set, and IL clear; the flags stay
 abbrev pub pstate_after : ℕ → ℕ
-pstate_after pstate = pstate_of (record (parts_of pstate) { illegal_state = false; daif = 0b1111; mode = 5 })
+pstate_after pstate = pstate_of (record (parts_of pstate) { illegal_state = false; daif = 0b1111; mode = number_of El1h })
 
 -- the core after an entry; what isn't named stays
 abbrev pub entered : CoreData → Cause → CoreData
