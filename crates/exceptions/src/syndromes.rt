@@ -70,7 +70,7 @@ fn access_part(stage2: bool, access: Option<MemAccess>) -> u32
 {
     match access {
         None => 0,
-        Some(access) if stage2 && access.described => { description(access) + bit(6, access.store) }
+        Some(access) if stage2 && access.described => description(access) + bit(6, access.store),
         Some(access) => bit(6, access.store),
     }
 }
