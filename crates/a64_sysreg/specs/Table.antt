@@ -2,7 +2,7 @@
 -- the GICv3 architecture for ICC registers): an equation a register, in the order of their numbers. Each says the number;
 -- who has access; what a read gives; and what a write leaves. That the identification registers read as zero, and which
 -- registers there are, is our own choice.
-use Rattle.std.specs.Prelude.{◌≡◌, IsTrue, ◌+◌, ◌*◌, ◌^◌, Bool, ◌==◌, ◌&&◌, ◌||◌, List, [], ◌∷◌, Option, Some}
+use Rattle.std.specs.Prelude.{◌≡◌, IsTrue, if◌then◌else◌, ◌+◌, ◌*◌, ◌^◌, Bool, ◌==◌, ◌&&◌, ◌||◌, List, [], ◌∷◌, Option, Some}
 use Rattle.std.specs.List.{find}
 use Rattle.bao_types.specs.Bits.{field}
 use Rattle.bao_types.specs.declared.sys_id.SysId.{SysId}
@@ -13,7 +13,7 @@ use Rattle.a64_sysreg.specs.declared.register.Register.{Register}
 use Rattle.a64_sysreg.specs.declared.register.Register.TheVariants.{Midr, Mpuir, Mpidr, Identification, Sctlr, Cpacr, Spsr, Elr, SpEl0, SpSel, CurrentEl, IccPmr, Esr, Far, Prselr, Prbar, Prlar, Mair, Vbar, IccRpr, IccSgi1r, IccIar1, IccEoir1, IccHppir1, IccBpr1, IccCtlr, IccSre, IccIgrpen1, Contextidr, Tpidr, Cntkctl, Ctr, Nzcv, Daif, TpidrEl0, TpidrroEl0, Cntfrq, Cntvct, CntvTval, CntvCtl, CntvCval}
 use Rattle.a64_sysreg.specs.declared.access.SysWrite.TheVariants.{TrapEl2, Unbuilt}
 use Rattle.a64_sysreg.specs.Row.{Row, numbered, is_identification, at_el1, with_own_sp, read_at_el0, everywhere, read_only, read_write, kept, write_only, read_unbuilt}
-use Rattle.a64_sysreg.specs.Value.{bits, is_set, bit, with_pstate, with_sp_sel, timer_value, compare_value, timer_control}
+use Rattle.a64_sysreg.specs.Value.{bits, is_set, with_pstate, with_sp_sel, timer_value, compare_value, timer_control}
 
 -- the table
 unfoldable pub row : Register → Row
@@ -56,7 +56,7 @@ row IccBpr1 = read_write (numbered 3 0 12 12 3) at_el1 (λ core now. 0) (λ core
 row IccCtlr = read_write (numbered 3 0 12 12 4) at_el1 (λ core now. 0) (λ core now value. core)
 row IccSre = read_write (numbered 3 0 12 12 5) at_el1 (λ core now. 7) (λ core now value. core)
 row IccIgrpen1 =
-    read_write (numbered 3 0 12 12 7) at_el1 (λ core now. bit 0 core.iface.group)
+    read_write (numbered 3 0 12 12 7) at_el1 (λ core now. if core.iface.group then 1 else 0)
     (λ core now value. record core { iface = record core.iface { group = is_set value 0 } })
 row Contextidr = kept (numbered 3 0 13 0 1) at_el1 (λ sys. sys.contextidr) (λ sys value. record sys { contextidr = value })
 row Tpidr = kept (numbered 3 0 13 0 4) at_el1 (λ sys. sys.tpidr) (λ sys value. record sys { tpidr = value })

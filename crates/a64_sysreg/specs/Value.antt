@@ -15,10 +15,7 @@ bits value high low = field value high low * 2 ^ low
 abbrev pub is_set : ℕ → ℕ → Bool
 is_set value place = field value place place == 1
 
--- a bit at this place
-abbrev pub bit : ℕ → Bool → ℕ
-bit place set = if set then 2 ^ place else 0
-
+-- the core with another PSTATE
 abbrev pub with_pstate : CoreData → ℕ → CoreData
 with_pstate core pstate = record core { pstate = pstate }
 
@@ -40,4 +37,4 @@ compare_value now value = (now + signed_word value) % 2 ^ 64
 
 -- CNTV_CTL_EL0: ENABLE and IMASK are kept, and bit 2, ISTATUS, shows the condition
 abbrev pub timer_control : TimerRegs → ℕ → ℕ
-timer_control timer now = timer.ctl + bit 2 (meets_condition timer now)
+timer_control timer now = timer.ctl + (if meets_condition timer now then 2 ^ 2 else 0)
