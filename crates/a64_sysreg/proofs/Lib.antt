@@ -1,0 +1,4 @@
+mod Undefined
+mod Kept
+mod Numbers
+mod Regions

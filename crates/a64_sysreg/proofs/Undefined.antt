@@ -1,0 +1,90 @@
+-- A read or a write is undefined exactly where the table gives no right to it.
+use Rattle.std.proofs.Common.{◌≡◌, ◌≢◌, ◌↔◌, ℕ, Bool, true, false, IsTrue, IsFalse, refl}
+use Rattle.std.specs.Prelude.{◌==◌, if◌then◌else◌, Option, Some, None}
+use Rattle.bao_types.specs.declared.sys_id.SysId.{SysId}
+use Rattle.a64_state.specs.Core.{CoreData}
+use Rattle.a64_state.specs.Pstate.{mode}
+use Rattle.a64_sysreg.specs.declared.register.Register.{Register}
+use Rattle.a64_sysreg.specs.declared.register.Register.TheVariants.{Midr, Mpuir, Mpidr, Identification, CurrentEl, IccRpr, IccSgi1r, IccIar1, IccEoir1, IccHppir1, Ctr, Cntfrq, Cntvct}
+use Rattle.a64_sysreg.specs.declared.rights.Rights.TheVariants.{Nothing, Read, Write}
+use Rattle.a64_sysreg.specs.declared.access.SysRead.{SysRead}
+use Rattle.a64_sysreg.specs.declared.access.SysRead.TheVariants as read
+use Rattle.a64_sysreg.specs.declared.access.SysWrite.{SysWrite}
+use Rattle.a64_sysreg.specs.declared.access.SysWrite.TheVariants as write
+use Rattle.a64_sysreg.specs.Row.{allows_read, allows_write}
+use Rattle.a64_sysreg.specs.Table.{row, register_of}
+use Rattle.a64_sysreg.specs.Access.{is_readable, is_writable, read_of, answer_of, read_answer, write_answer, may_read, may_write}
+
+-- what is only written is never read
+never-read : (at_el0 : Bool) → IsTrue (allows_read (if at_el0 then Nothing else Write)) → ⊥
+never-read true allowed = cc
+never-read false allowed = cc
+
+-- what may be read gives something
+readable-gives :
+    (register : Register) (core : CoreData) (now : ℕ) → IsTrue (is_readable core (Some register)) →
+    (row register).read core now ≢ read.Undefined
+unfolding row
+readable-gives IccSgi1r core now allowed = absurd (never-read (mode core.pstate == 0) allowed)
+readable-gives IccEoir1 core now allowed = absurd (never-read (mode core.pstate == 0) allowed)
+readable-gives _ core now allowed = λ same. cc
+
+-- a right decides
+by-right :
+    (allowed : Bool) (given : SysRead) → (IsTrue allowed → given ≢ read.Undefined) →
+    ((if allowed then given else read.Undefined) ≡ read.Undefined) ↔ IsFalse allowed
+by-right true given gives = (λ same. absurd (gives refl same), λ refused. cc)
+by-right false given gives = (λ _. refl, λ _. refl)
+
+read-by-register :
+    (core : CoreData) (now : ℕ) (register : Option Register) →
+    (read_of core now register ≡ read.Undefined) ↔ IsFalse (is_readable core register)
+read-by-register core now None = (λ _. refl, λ _. refl)
+read-by-register core now (Some register) =
+    by-right (is_readable core (Some register)) ((row register).read core now) (readable-gives register core now)
+
+pub undefined_read :
+    (core : CoreData) (now : ℕ) (id : SysId) → (read_answer core now id ≡ read.Undefined) ↔ IsFalse (may_read core id)
+unfolding read_answer may_read
+undefined_read core now id = read-by-register core now (register_of id)
+
+-- what is only read is never written
+never-written : (at_el0 : Bool) → IsTrue (allows_write (if at_el0 then Nothing else Read)) → ⊥
+never-written true allowed = cc
+never-written false allowed = cc
+
+-- a write that is allowed is answered
+writable-answers :
+    (register : Register) (core : CoreData) → IsTrue (is_writable core (Some register)) →
+    (row register).answer ≢ write.Undefined
+unfolding row
+writable-answers Midr core allowed = absurd (never-written (mode core.pstate == 0) allowed)
+writable-answers Mpuir core allowed = absurd (never-written (mode core.pstate == 0) allowed)
+writable-answers Mpidr core allowed = absurd (never-written (mode core.pstate == 0) allowed)
+writable-answers Identification core allowed = absurd (never-written (mode core.pstate == 0) allowed)
+writable-answers CurrentEl core allowed = absurd (never-written (mode core.pstate == 0) allowed)
+writable-answers IccRpr core allowed = absurd (never-written (mode core.pstate == 0) allowed)
+writable-answers IccIar1 core allowed = absurd (never-written (mode core.pstate == 0) allowed)
+writable-answers IccHppir1 core allowed = absurd (never-written (mode core.pstate == 0) allowed)
+writable-answers Ctr core allowed = λ same. cc
+writable-answers Cntfrq core allowed = λ same. cc
+writable-answers Cntvct core allowed = λ same. cc
+writable-answers _ core allowed = λ same. cc
+
+write-by-right :
+    (allowed : Bool) (answer : SysWrite) → (IsTrue allowed → answer ≢ write.Undefined) →
+    ((if allowed then answer else write.Undefined) ≡ write.Undefined) ↔ IsFalse allowed
+write-by-right true answer answers = (λ same. absurd (answers refl same), λ refused. cc)
+write-by-right false answer answers = (λ _. refl, λ _. refl)
+
+write-by-register :
+    (core : CoreData) (register : Option Register) →
+    (answer_of core register ≡ write.Undefined) ↔ IsFalse (is_writable core register)
+write-by-register core None = (λ _. refl, λ _. refl)
+write-by-register core (Some register) =
+    write-by-right (is_writable core (Some register)) (row register).answer (writable-answers register core)
+
+pub undefined_write :
+    (core : CoreData) (id : SysId) → (write_answer core id ≡ write.Undefined) ↔ IsFalse (may_write core id)
+unfolding write_answer may_write
+undefined_write core id = write-by-register core (register_of id)

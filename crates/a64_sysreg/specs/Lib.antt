@@ -1,0 +1,4 @@
+pub mod Row
+pub mod Value
+pub mod Table
+pub mod Access

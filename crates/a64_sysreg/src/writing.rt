@@ -1,0 +1,96 @@
+ghost use Rattle.std.specs.Prelude.{◌≡◌, if◌then◌else◌};
+ghost use Rattle.a64_state.specs.Mode.{with_mode};
+ghost use Rattle.a64_sysreg.specs.Value.{compare_value as compare_value_of};
+ghost use Rattle.a64_sysreg.specs.Table.{row};
+
+use crate::{Register, SysWrite};
+use a64_state::{Core, Mode};
+use pmsa_regs::{write_base, write_limit, write_select};
+
+/// Writes a register, as far as it may be written.
+#[tactic(auto, unfolding(crate::specs::Table::row))]
+pub(crate) fn write(core: &mut Core, now: u64, register: Register, value: u64)
+    ensures { core.new ≡ (row register).after core.old now value }
+{
+    match register {
+        Register::Sctlr => core.sys.sctlr = value,
+        Register::Cpacr => core.sys.cpacr = value,
+        Register::Spsr => core.sys.spsr = value % (1 << 32),
+        Register::Elr => core.sys.elr = value,
+        Register::SpEl0 => core.sp0 = value,
+        Register::SpSel => select_sp(core, value % 2 == 1),
+        Register::Esr => core.sys.esr = value,
+        Register::Far => core.sys.far = value,
+        Register::Prselr => write_select(&mut core.regions, value),
+        Register::Prbar => write_base(&mut core.regions, value),
+        Register::Prlar => write_limit(&mut core.regions, value),
+        Register::Mair => core.sys.mair = value,
+        Register::Vbar => core.sys.vbar = value / (1 << 11) * (1 << 11),
+        Register::IccPmr => core.iface.pmr = (value / 8 % 32 * 8) as u8,
+        Register::IccIgrpen1 => core.iface.group = value % 2 == 1,
+        Register::Contextidr => core.sys.contextidr = value,
+        Register::Tpidr => core.sys.tpidr = value,
+        Register::Cntkctl => core.sys.cntkctl = value,
+        Register::Nzcv => core.set_flags((value / (1 << 28) % 16) as u32),
+        Register::Daif => core.set_daif((value / (1 << 6) % 16) as u32),
+        Register::TpidrEl0 => core.sys.tpidr_el0 = value,
+        Register::TpidrroEl0 => core.sys.tpidrro_el0 = value,
+        Register::CntvTval => core.timer.cval = compare_value(now, value),
+        Register::CntvCtl => core.timer.ctl = value % 4,
+        Register::CntvCval => core.timer.cval = value,
+        // These ignore a write.
+        Register::IccBpr1 | Register::IccCtlr | Register::IccSre => {}
+        // These aren't written: the first two answer otherwise, and all others are only read.
+        Register::IccSgi1r
+        | Register::IccEoir1
+        | Register::Midr
+        | Register::Mpuir
+        | Register::Mpidr
+        | Register::Identification
+        | Register::CurrentEl
+        | Register::IccRpr
+        | Register::IccIar1
+        | Register::IccHppir1
+        | Register::Ctr
+        | Register::Cntfrq
+        | Register::Cntvct => {}
+    }
+}
+
+/// What a write of a register answers, as far as it may be written.
+#[tactic(auto, unfolding(crate::specs::Table::row))]
+#[rattlefmt::skip]
+pub(crate) fn answer(register: Register) -> SysWrite
+    ensures { result ≡ (row register).answer }
+{
+    use crate::Register::*;
+    match register {
+        IccSgi1r => SysWrite::TrapEl2,
+        IccEoir1 => SysWrite::Unbuilt,
+        Midr | Mpuir | Mpidr | Identification | CurrentEl | IccRpr | IccIar1 | IccHppir1 | Ctr | Cntfrq | Cntvct =>
+            SysWrite::Undefined,
+        Sctlr | Cpacr | Spsr | Elr | SpEl0 | SpSel | IccPmr | Esr | Far | Prselr | Prbar | Prlar | Mair | Vbar | IccBpr1
+        | IccCtlr | IccSre | IccIgrpen1 | Contextidr | Tpidr | Cntkctl | Nzcv | Daif | TpidrEl0 | TpidrroEl0 | CntvTval
+        | CntvCtl | CntvCval => SysWrite::Done,
+    }
+}
+
+/// Selects EL1's own stack pointer or SP_EL0; the core is at EL1.
+fn select_sp(core: &mut Core, own: bool)
+    ensures { core.new ≡ record core.old { pstate = with_mode core.old.pstate (if own then Mode.El1h else Mode.El1t) } }
+{
+    core.set_mode(if own { Mode::El1h } else { Mode::El1t });
+}
+
+/// The compare value of the timer after a write of its timer value: the count and the signed word, in 64 bits.
+fn compare_value(now: u64, value: u64) -> u64
+    ensures { result ≡ compare_value_of now value }
+{
+    let word = value % (1 << 32);
+    let high = if word >= 1 << 31 {
+        u64::MAX - ((1 << 32) - 1)
+    } else {
+        0
+    };
+    now.wrapping_add(word + high)
+}

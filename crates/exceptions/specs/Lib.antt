@@ -1,0 +1,4 @@
+pub mod Entry
+pub mod Return
+pub mod Syndrome
+pub mod Assembled
