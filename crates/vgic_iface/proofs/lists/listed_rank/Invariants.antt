@@ -1,0 +1,6 @@
+use Rattle.std.proofs.Common.{◌≡◌, find, take, None}
+use Rattle.vgic_iface.specs.Interface.{holds}
+use Rattle.vgic_iface.proofs.lists.listed_rank.Given as goal
+
+abbrev pub invariant-loop-list : goal.invariant-loop-list
+invariant-loop-list l = find (holds l.id) (take l.list-index l.lists) ≡ None
