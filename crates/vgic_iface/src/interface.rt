@@ -1,6 +1,6 @@
 ghost use Rattle.std.specs.Prelude.{◌≡◌, ◌<◌, not, unwrap_or};
 ghost use Rattle.vgic_iface.specs.Active.{running, with_priority, without_running};
-ghost use Rattle.vgic_iface.specs.Interface.{acknowledged, ended, is_signalled, is_unlisted, listed_signal};
+ghost use Rattle.vgic_iface.specs.Interface.{acknowledged, ended, is_signalled, is_unlisted, listed_signal, no_interrupt};
 
 use crate::lists::{best, make_active, make_inactive};
 use bao_types::IfaceRegs;
@@ -26,7 +26,7 @@ pub fn signal(iface: &IfaceRegs) -> Option<u16>
 /// Takes the interrupt that is signalled: it becomes active and is pending no longer, and its priority becomes active.
 /// Where there is none the answer is 1023, and nothing changes (ICC_IAR1_EL1).
 pub fn acknowledge(iface: &mut IfaceRegs) -> u16
-    ensures value { result ≡ unwrap_or (listed_signal iface.old) 1023 }
+    ensures value { result ≡ unwrap_or (listed_signal iface.old) no_interrupt }
     ensures after { iface.new ≡ acknowledged iface.old }
 {
     let best = best(&iface.lists);
