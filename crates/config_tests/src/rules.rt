@@ -46,6 +46,13 @@ const DEV_B: &str = "devs = [{ port = 1, irq = 40 }]";
 
 const IPC_B: &str = "ipcs = [{ shmem = 0, access = \"rw\", irqs = [60, 61] }]\n";
 
+/// The table of VM a, and that of VM b, whole.
+const VM_A: &str =
+    "[[vm]]\nname = \"a\"\nimage = \"a.bin\"\nload = 0x100000\nroom = 0x8000\nentry = 0x100000\ncores = [0]\nregions = [{ base = 0x100000, size = 0x10000, access = \"rwx\" }]\ndevs = [{ port = 0, irq = 40 }]\nipcs = [{ shmem = 0, access = \"rw\", irqs = [50, 51] }]\n";
+
+const VM_B: &str =
+    "[[vm]]\nname = \"b\"\nimage = \"b.bin\"\nload = 0x140000\nroom = 0x8000\nentry = 0x140000\ncores = [1]\nregions = [{ base = 0x140000, size = 0x10000, access = \"rwx\" }]\ndevs = [{ port = 1, irq = 40 }]\nipcs = [{ shmem = 0, access = \"rw\", irqs = [60, 61] }]\n";
+
 #[rattlefmt::skip]
 static PLATFORM: [Row; 21] = [
     ("the sample", &[], "ok"),
@@ -128,7 +135,7 @@ fn rules_of_vms(rt: HostRuntime) -> Result<(), Fail> {
 }
 
 #[rattlefmt::skip]
-static BYTES: [Row; 15] = [
+static BYTES: [Row; 17] = [
     ("a place longer than its memory", &[(PLACE_B, "load = 0x140000\nroom = 0x10040")],
         "rule 20 vm 1 item - 0x140000+0x10040 0x150000+0x1"),
     ("a place as long as its memory", &[(PLACE_B, "load = 0x140000\nroom = 0x10000")], "ok"),
@@ -148,6 +155,8 @@ static BYTES: [Row; 15] = [
         "rule 22 vm 1 item 0 0x100000+0x10000 0x10ff80+0x40000"),
     ("a window over memory of another", &[(SHMEM, "base = 0x148000\nsize = 0x1000\nevents = 2\n"), (IPC_B, "")],
         "rule 22 vm 1 item 0 0x148000+0x1000 0x140000+0x10000"),
+    ("the VM with the window alone", &[(SHMEM, "base = 0x148000\nsize = 0x1000\nevents = 2\n"), (VM_B, "")], "ok"),
+    ("the VM with the memory alone", &[(SHMEM, "base = 0x148000\nsize = 0x1000\nevents = 2\n"), (VM_A, ""), (IPC_B, "")], "ok"),
     ("memory below a window of both", &[(REGION_B, "regions = [{ base = 0x140000, size = 0x50000, access = \"rwx\" }]")], "ok"),
     ("memory below a window of one, with a guard in it", &[(REGION_B, "regions = [{ base = 0x140000, size = 0x50000, access = \"rwx\" }]"), (IPC_B, "guards = [{ base = 0x180000, size = 0x1000 }]\n")], "ok"),
     ("three VMs, of which two pairs share", &[(IPC_B, "[[vm]]\nname = \"c\"\nimage = \"c.bin\"\nload = 0x100000\nroom = 0x40\nentry = 0x100000\ncores = [2]\nregions = [{ base = 0x100000, size = 0x50000, access = \"rwx\" }]\n"), ("cores = [16, 16]", "cores = [16, 16, 16]")],
