@@ -1,0 +1,43 @@
+-- Changes of a VM's interrupts.
+use Rattle.std.specs.Prelude.{ℕ, ◌-◌, ◌%◌, nat_lt, Bool, true, false, if◌then◌else◌, Option, slice_set, unwrap_or}
+use Rattle.bao_types.specs.IfaceRegs.{IfaceData}
+use Rattle.vgic_iface.specs.Active.{with_priority, without_running}
+use Rattle.vgic_iface.specs.Interface.{is_signalled, signalled}
+use Rattle.vgic_iface.specs.Rank.{id_of, id_end, priority_of}
+use Rattle.vgic_table.specs.declared.id_state.IdState.{IdState}
+use Rattle.vgic_table.specs.Interrupts.{Interrupts, best, place, state_of}
+
+-- one id of a core is another; all others stay
+abbrev pub with_state : Interrupts → ℕ → ℕ → IdState → Interrupts
+with_state vm core id state = record vm { ids = slice_set vm.ids (place core id) state }
+
+-- a state whose priority has the bits 7 to 3 alone
+abbrev pub masked : IdState → IdState
+masked state = record state { priority = state.priority - state.priority % 8 }
+
+abbrev pub made_pending : Interrupts → ℕ → ℕ → Interrupts
+made_pending vm core id = with_state vm core id (record (state_of vm core id) { pending = true })
+
+abbrev pub made_inactive : Interrupts → ℕ → ℕ → Interrupts
+made_inactive vm core id = with_state vm core id (record (state_of vm core id) { active = false })
+
+abbrev pub taken : Interrupts → ℕ → ℕ → Interrupts
+taken vm core id = with_state vm core id (record (state_of vm core id) { pending = false; active = true })
+
+-- the number that an acknowledgement by the core answers
+abbrev pub signal : Interrupts → ℕ → IfaceData → Option ℕ
+signal vm core iface = signalled iface (best vm core)
+
+-- after an acknowledgement: the interrupt that is signalled is active, and pending no longer; where there is none all
+-- stays
+abbrev pub after_acknowledge : Interrupts → ℕ → IfaceData → Interrupts
+after_acknowledge vm core iface = if is_signalled iface (best vm core) then taken vm core (id_of (best vm core)) else vm
+
+-- the active priorities after an acknowledgement
+abbrev pub active_after_acknowledge : Interrupts → ℕ → IfaceData → ℕ
+active_after_acknowledge vm core iface =
+    if is_signalled iface (best vm core) then with_priority iface.active (priority_of (best vm core)) else iface.active
+
+-- after the end of an id: it is inactive
+abbrev pub after_end : Interrupts → ℕ → ℕ → Interrupts
+after_end vm core id = if nat_lt id id_end then made_inactive vm core id else vm

@@ -1,0 +1,5 @@
+pub mod Interrupts
+pub mod Changes
+pub mod Registers
+pub mod Shape
+pub mod Laws
