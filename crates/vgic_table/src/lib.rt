@@ -2,7 +2,7 @@
 //! the ids 32 to 95.
 //!
 //! Interrupts move from here to list registers and back. What a core does with its registers is `vgic_iface`; the
-//! frames through which guests reach this table are `vgic_emul`.
+//! frames through which guests reach this table are emulated by the layers above.
 #![tactic(auto)]
 
 pub use id_state::IdState;
