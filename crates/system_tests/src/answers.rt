@@ -1,6 +1,8 @@
 //! Each answer of the program: its status, its line, and what was done before it.
 
-use crate::runs::{CONFIG, FOREVER, RUN, case_of, check, image_of, steps, strings};
+use crate::runs::{
+    CONFIG, FOREVER, RUN, check, image_of, sample_shelf, shelf_of, steps, strings, told,
+};
 use bao_run::run_bao;
 use outside::{MemSink, SureShelf};
 use sim_board::SimBoard;
@@ -57,8 +59,8 @@ done
     let alloc = rt.alloc();
     let image = image_of(alloc, &FIVE)?;
     for (schedule, wanted) in ROWS.as_slice() {
-        let case = case_of(&image, schedule.as_bytes());
-        check(&rt, alloc, schedule, &case, wanted)?;
+        let mut shelf = sample_shelf(alloc, &image, schedule.as_bytes())?;
+        check(&rt, schedule, &told(alloc, &RUN, &mut shelf, &[])?, wanted);
     }
     Ok(())
 }
@@ -99,11 +101,11 @@ fn check_words(
     status: u8,
     line: &str,
 ) -> Result<(), Fail> {
-    let mut case = case_of(b"", b"");
-    case.words = words;
     let shows = format!(in alloc; "{words:?}")?;
     let wanted = format!(in alloc; "status {status} entered 0 calls 0 faults 0\n{line}")?;
-    check(rt, alloc, &shows, &case, &wanted)
+    let mut shelf = sample_shelf(alloc, b"", b"")?;
+    check(rt, &shows, &told(alloc, words, &mut shelf, &[])?, &wanted);
+    Ok(())
 }
 
 #[test]
@@ -161,7 +163,9 @@ fn check_schedule(
         None => { format!(in alloc; "status 12 entered 0 calls 3 faults 0\nnot built schedule\n")? }
     };
     let image = image_of(alloc, &FOREVER)?;
-    check(rt, alloc, shows, &case_of(&image, schedule), &wanted)
+    let mut shelf = sample_shelf(alloc, &image, schedule)?;
+    check(rt, shows, &told(alloc, &RUN, &mut shelf, &[])?, &wanted);
+    Ok(())
 }
 
 #[test]
@@ -202,14 +206,16 @@ fn check_limit(
     wanted: &str,
 ) -> Result<(), Fail> {
     let [config, image, schedule] = lengths;
-    let config = vec![in alloc; b'#'; config]?;
+    let config = if config == 0 {
+        CONFIG.as_bytes().to_vec(alloc)?
+    } else {
+        vec![in alloc; b'#'; config]?
+    };
     let image = vec![in alloc; 0u8; image]?;
     let schedule = vec![in alloc; b'#'; schedule]?;
-    let mut case = case_of(&image, &schedule);
-    if !config.is_empty() {
-        case.config = &config;
-    }
-    check(rt, alloc, shows, &case, wanted)
+    let mut shelf = shelf_of(alloc, &config, &image, &schedule, &[])?;
+    check(rt, shows, &told(alloc, &RUN, &mut shelf, &[])?, wanted);
+    Ok(())
 }
 
 #[test]
@@ -252,10 +258,9 @@ fn check_failing(
     wanted: &str,
 ) -> Result<(), Fail> {
     let image = image_of(alloc, &FIVE)?;
-    let mut case = case_of(&image, b"s 0 0\n");
-    case.failing_calls = calls;
-    case.failing_puts = puts;
-    check(rt, alloc, wanted, &case, wanted)
+    let mut shelf = shelf_of(alloc, CONFIG.as_bytes(), &image, b"s 0 0\n", calls)?;
+    check(rt, wanted, &told(alloc, &RUN, &mut shelf, puts)?, wanted);
+    Ok(())
 }
 
 #[test]
@@ -266,37 +271,40 @@ fn a_shelf_that_fails(rt: HostRuntime) -> Result<(), Fail> {
     Ok(())
 }
 
+/// Words of a run over a shelf whose third call fails, and the answer: a schedule that is missing, and schedules that have
+/// the name of another file, of which the first file of the name is told.
+#[rattlefmt::skip]
+static FAILING_NAMES: [(&[&str], &str); 4] = [
+    (&["run", "config.toml", "other.txt"],    "status 3 entered 0 calls 3 faults 1\nread fault schedule\n"),
+    (&["run", "config.toml", "config.toml"],  "status 3 entered 0 calls 3 faults 1\nread fault config\n"),
+    (&["run", "config.toml", "a.bin"],        "status 3 entered 0 calls 3 faults 1\nread fault image 0\n"),
+    (&["run", "config.toml", "schedule.txt"], "status 3 entered 0 calls 3 faults 1\nread fault schedule\n"),
+];
+
+fn check_name(rt: &impl Abort, alloc: Global, words: &[&str], wanted: &str) -> Result<(), Fail> {
+    let image = image_of(alloc, &FIVE)?;
+    let shows = format!(in alloc; "{words:?}")?;
+    let mut shelf = shelf_of(alloc, CONFIG.as_bytes(), &image, b"", &[3])?;
+    check(rt, &shows, &told(alloc, words, &mut shelf, &[])?, wanted);
+    Ok(())
+}
+
+#[test]
+fn files_that_fail_by_name(rt: HostRuntime) -> Result<(), Fail> {
+    for (words, wanted) in FAILING_NAMES.as_slice() {
+        check_name(&rt, rt.alloc(), words, wanted)?;
+    }
+    Ok(())
+}
+
+/// A file that isn't there is a fault too, with no call that is to fail.
 #[test]
 fn a_file_that_is_missing(rt: HostRuntime) -> Result<(), Fail> {
     let alloc = rt.alloc();
-    let mut case = case_of(b"", b"");
-    case.words = &["run", "config.toml", "other.txt"];
+    let mut shelf = sample_shelf(alloc, b"", b"")?;
+    let told = told(alloc, &["run", "config.toml", "other.txt"], &mut shelf, &[])?;
     let wanted = "status 3 entered 0 calls 3 faults 1\nread fault schedule\n";
-    check(&rt, alloc, "a schedule that is missing", &case, wanted)
-}
-
-/// A schedule that has the name of another file, where the third call fails: the first file of the name is told.
-static FILES_OF_ONE_NAME: [(&str, &str); 3] = [
-    ("config.toml", "read fault config\n"),
-    ("a.bin", "read fault image 0\n"),
-    ("schedule.txt", "read fault schedule\n"),
-];
-
-fn check_name(rt: &impl Abort, alloc: Global, schedule: &str, line: &str) -> Result<(), Fail> {
-    let image = image_of(alloc, &FIVE)?;
-    let words = ["run", "config.toml", schedule];
-    let mut case = case_of(&image, b"");
-    case.words = &words;
-    case.failing_calls = &[3];
-    let wanted = format!(in alloc; "status 3 entered 0 calls 3 faults 1\n{line}")?;
-    check(rt, alloc, schedule, &case, &wanted)
-}
-
-#[test]
-fn files_of_one_name(rt: HostRuntime) -> Result<(), Fail> {
-    for (schedule, line) in FILES_OF_ONE_NAME.as_slice() {
-        check_name(&rt, rt.alloc(), schedule, line)?;
-    }
+    check(&rt, "a schedule that is missing", &told, wanted);
     Ok(())
 }
 
@@ -356,7 +364,8 @@ fn a_sure_shelf_and_two_runs(rt: HostRuntime) -> Result<(), Fail> {
         let words = strings(alloc, &RUN)?;
         let status = run_bao(alloc, &words, &mut shelf, &mut sink, &mut board);
         let text = std::str::from_utf8(sink.taken())?;
-        let told = format!(in alloc; "{}\n{text}", status.number())?;
+        let number = status.number();
+        let told = format!(in alloc; "{number}\n{text}")?;
         let wanted = format!(in alloc; "0\n{FIVE_REPORT}")?;
         assert_eq!(rt; told, wanted);
     }

@@ -1,7 +1,7 @@
 //! Guests that the whole program runs, each by the lines of its report. The expected lines were worked out by hand; those
 //! of whole programs and of loads and stores were compared with what scripts/report-by-qemu.py prints.
 
-use crate::runs::{case_of, image_of, steps, told};
+use crate::runs::{RUN, image_of, sample_shelf, steps, told};
 use std::alloc::Global;
 use std::process::Abort;
 use std::test::Fail;
@@ -24,8 +24,9 @@ fn check_program(
     let (shows, words, count, [one, other]) = *program;
     let mut image = image_of(alloc, first)?;
     image.extend_from_slice(&image_of(alloc, words)?)?;
-    let schedule = steps(alloc, first.len() as u32 + count)?;
-    let told = told(alloc, &case_of(&image, &schedule))?;
+    let schedule = steps(alloc, first.len().saturating_add(count as usize))?;
+    let mut shelf = sample_shelf(alloc, &image, &schedule)?;
+    let told = told(alloc, &RUN, &mut shelf, &[])?;
     let holds = told.starts_with("status 0 ") && has_line(&told, one) && has_line(&told, other);
     assert!(rt; holds, "{shows}: {one}, {other} in {told}");
     Ok(())
@@ -192,8 +193,9 @@ fn check_not_built(
     event: u32,
 ) -> Result<(), Fail> {
     let image = image_of(alloc, words)?;
-    let schedule = steps(alloc, count)?;
-    let told = told(alloc, &case_of(&image, &schedule))?;
+    let schedule = steps(alloc, count as usize)?;
+    let mut shelf = sample_shelf(alloc, &image, &schedule)?;
+    let told = told(alloc, &RUN, &mut shelf, &[])?;
     let entered = u64::from(event) + 1;
     let wanted = format!(in alloc;
         "status 12 entered {entered} calls 3 faults 0\nnot built event {event}\n"

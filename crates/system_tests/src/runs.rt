@@ -35,29 +35,6 @@ pub(crate) const FOREVER: [u32; 1] = [0x1400_0000];
 
 pub(crate) const RUN: [&str; 3] = ["run", "config.toml", "schedule.txt"];
 
-/// A call of the program: its words, its files, and which calls of the shelf and puts of the sink fail, from 1.
-#[derive(Clone, Copy)]
-pub(crate) struct Case<'a> {
-    pub(crate) words: &'a [&'a str],
-    pub(crate) config: &'a [u8],
-    pub(crate) image: &'a [u8],
-    pub(crate) schedule: &'a [u8],
-    pub(crate) failing_calls: &'a [u32],
-    pub(crate) failing_puts: &'a [u32],
-}
-
-/// The accepted configuration with an image and a schedule, and nothing that fails.
-pub(crate) fn case_of<'a>(image: &'a [u8], schedule: &'a [u8]) -> Case<'a> {
-    Case {
-        words: &RUN,
-        config: CONFIG.as_bytes(),
-        image,
-        schedule,
-        failing_calls: &[],
-        failing_puts: &[],
-    }
-}
-
 pub(crate) fn strings(alloc: Global, texts: &[&str]) -> Result<Vec<String>, Fail> {
     let mut strings = Vec::new(alloc);
     for text in texts {
@@ -76,7 +53,7 @@ pub(crate) fn image_of(alloc: Global, words: &[u32]) -> Result<Vec<u8>, Fail> {
 }
 
 /// A schedule of so many steps.
-pub(crate) fn steps(alloc: Global, count: u32) -> Result<Vec<u8>, Fail> {
+pub(crate) fn steps(alloc: Global, count: usize) -> Result<Vec<u8>, Fail> {
     let mut schedule = Vec::new(alloc);
     for _ in 0..count {
         schedule.extend_from_slice(b"s 0 0\n")?;
@@ -84,24 +61,44 @@ pub(crate) fn steps(alloc: Global, count: u32) -> Result<Vec<u8>, Fail> {
     Ok(schedule)
 }
 
-/// What a call of the program left: its status, how many steps the board was entered for, how often the shelf was called
-/// and failed; and below that the text that the sink took.
-pub(crate) fn told(alloc: Global, case: &Case) -> Result<String, Fail> {
-    let words = strings(alloc, case.words)?;
+/// A shelf with a configuration, an image and a schedule, whose calls of these numbers, from 1, fail.
+pub(crate) fn shelf_of(
+    alloc: Global,
+    config: &[u8],
+    image: &[u8],
+    schedule: &[u8],
+    failing: &[u32],
+) -> Result<MemShelf, Fail> {
     let names = vec![in alloc;
         String::from_str(alloc, "config.toml")?,
         String::from_str(alloc, "a.bin")?,
         String::from_str(alloc, "schedule.txt")?,
     ]?;
     let contents = vec![in alloc;
-        case.config.to_vec(alloc)?,
-        case.image.to_vec(alloc)?,
-        case.schedule.to_vec(alloc)?,
+        config.to_vec(alloc)?,
+        image.to_vec(alloc)?,
+        schedule.to_vec(alloc)?,
     ]?;
-    let mut shelf = MemShelf::new(alloc, names, contents, case.failing_calls.to_vec(alloc)?);
-    let mut sink = MemSink::new(alloc, 1 << 20, case.failing_puts.to_vec(alloc)?)?;
+    Ok(MemShelf::new(alloc, names, contents, failing.to_vec(alloc)?))
+}
+
+/// The same with the accepted configuration and no call that fails.
+pub(crate) fn sample_shelf(alloc: Global, image: &[u8], schedule: &[u8]) -> Result<MemShelf, Fail> {
+    shelf_of(alloc, CONFIG.as_bytes(), image, schedule, &[])
+}
+
+/// What a call of the program left, whose sink fails at the puts of these numbers, from 1: its status, how many steps the
+/// board was entered for, how often the shelf was called and failed; and below that the text that the sink took.
+pub(crate) fn told(
+    alloc: Global,
+    words: &[&str],
+    shelf: &mut MemShelf,
+    failing_puts: &[u32],
+) -> Result<String, Fail> {
+    let words = strings(alloc, words)?;
+    let mut sink = MemSink::new(alloc, 1 << 20, failing_puts.to_vec(alloc)?)?;
     let mut board = SimBoard::new(alloc);
-    let status = run_bao(alloc, &words, &mut shelf, &mut sink, &mut board);
+    let status = run_bao(alloc, &words, shelf, &mut sink, &mut board);
     let number = status.number();
     let (entered, calls, faults) = (board.entered(), shelf.calls(), shelf.faults());
     let text = std::str::from_utf8(sink.taken())?;
@@ -111,14 +108,6 @@ pub(crate) fn told(alloc: Global, case: &Case) -> Result<String, Fail> {
 }
 
 /// Compares what a call left with what is wanted.
-pub(crate) fn check(
-    rt: &impl Abort,
-    alloc: Global,
-    shows: &str,
-    case: &Case,
-    wanted: &str,
-) -> Result<(), Fail> {
-    let told = told(alloc, case)?;
-    assert_eq!(rt; told.as_str(), wanted, "{shows}");
-    Ok(())
+pub(crate) fn check(rt: &impl Abort, shows: &str, told: &str, wanted: &str) {
+    assert_eq!(rt; told, wanted, "{shows}");
 }
