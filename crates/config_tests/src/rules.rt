@@ -98,8 +98,10 @@ fn rules_of_the_platform(rt: HostRuntime) -> Result<(), Fail> {
 }
 
 #[rattlefmt::skip]
-static VMS: [Row; 19] = [
+static VMS: [Row; 20] = [
     ("two VMs of one name", &[("name = \"b\"", "name = \"a\"")], "rule 9 vm 1 item 0 0x0+0x0 0x0+0x0"),
+    ("the first name decides, not the first repetition", &[(IPC_B, "[[vm]]\nname = \"b\"\nimage = \"b.bin\"\nload = 0x140000\nroom = 0x8000\nentry = 0x140000\ncores = [2]\nregions = [{ base = 0x140000, size = 0x10000, access = \"rwx\" }]\n[[vm]]\nname = \"a\"\nimage = \"a.bin\"\nload = 0x140000\nroom = 0x8000\nentry = 0x140000\ncores = [3]\nregions = [{ base = 0x140000, size = 0x10000, access = \"rwx\" }]\n")],
+        "rule 9 vm 3 item 0 0x0+0x0 0x0+0x0"),
     ("one name, and a core that isn't there", &[("name = \"b\"", "name = \"a\""), ("cores = [1]", "cores = [2]")],
         "rule 9 vm 1 item 0 0x0+0x0 0x0+0x0"),
     ("a core that isn't there", &[("cores = [1]", "cores = [1, 2]")], "rule 10 vm 1 item 1 0x0+0x0 0x0+0x0"),
