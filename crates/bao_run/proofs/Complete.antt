@@ -70,9 +70,13 @@ module _ (call : Call) (files : Files) (input : InputData) (held : call.shelf.he
   complete (status.ReadFault file) fault low (inr other) wlow wsame =
       absurd (other fault.config fault.schedule file fault.run fault.is_file fault.failed.1)
   complete (status.TooLong file limit) (run, ruled) low well wlow wsame = absurd (not_ruled (status.TooLong file limit) ruled)
+  complete status.BadToml h low well wlow wsame = absurd h
+  complete (status.IllConfig why) h low well wlow wsame = absurd h
+  complete (status.TooMany core runs entries) h low well wlow wsame = absurd h
   complete status.WriteFault (input', fault) low well wlow wsame =
       absurd (risen-other call.sink.faults_before wlow (sym fault.played.text.1 ∙ wsame))
   complete status.OutOfMemory h low well wlow wsame = due_memory (first_halt input)
+  complete status.ManyVms h low well wlow wsame = absurd h
   complete (status.NotBuilt part.Words) (command, ruled) low well wlow wsame = absurd (not_ruled (status.NotBuilt part.Words) ruled)
   complete (status.NotBuilt part.Config) (run, ruled) low well wlow wsame = absurd (not_ruled (status.NotBuilt part.Config) ruled)
   complete (status.NotBuilt part.Schedule) (run, ruled) low well wlow wsame = absurd (not_ruled (status.NotBuilt part.Schedule) ruled)

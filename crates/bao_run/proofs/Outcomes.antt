@@ -94,6 +94,9 @@ module _ (call : Call) (config schedule : List ℕ) (command : command_of call.w
     (config, (schedule, command)),
     record { told = ruled (Refused (status.TooLong file limit)) h.0; read = h.1; refused = record { board = board; line = line } },
   )
+  refused_input status.BadToml unfitted board h line = absurd h
+  refused_input (status.IllConfig why) unfitted board h line = absurd h
+  refused_input (status.TooMany core runs entries) unfitted board h line = absurd h
   refused_input status.WriteFault unfitted board h line = absurd h
   refused_input status.OutOfMemory unfitted board h line = record {
     run = (config, (schedule, command));
@@ -101,6 +104,7 @@ module _ (call : Call) (config schedule : List ℕ) (command : command_of call.w
     unfitted = (ap (λ m. m.fitted) board ∙ unfitted, ap (λ m. m.console) board);
     line = line;
   }
+  refused_input status.ManyVms unfitted board h line = absurd h
   refused_input (status.NotBuilt part.Words) unfitted board h line = absurd h.1
   refused_input (status.NotBuilt part.Config) unfitted board h line = (
     (config, (schedule, command)),
@@ -135,6 +139,9 @@ module _ (call : Call) (config schedule : List ℕ) (command : command_of call.w
     played status.Usage h = absurd h
     played (status.ReadFault file) h = absurd h
     played (status.TooLong file limit) h = absurd h
+    played status.BadToml h = absurd h
+    played (status.IllConfig why) h = absurd h
+    played (status.TooMany core runs entries) h = absurd h
     played status.WriteFault h = (input_data input, record { accepted = accepted; played = h })
     played status.OutOfMemory h = record {
       run = (config, (schedule, command));
@@ -142,6 +149,7 @@ module _ (call : Call) (config schedule : List ℕ) (command : command_of call.w
       unfitted = h.unfitted;
       line = h.line;
     }
+    played status.ManyVms h = absurd h
     played (status.NotBuilt part.Words) h = absurd h
     played (status.NotBuilt part.Config) h = absurd h
     played (status.NotBuilt part.Schedule) h = absurd h

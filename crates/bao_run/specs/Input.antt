@@ -44,8 +44,12 @@ files_at cfg status.Done = file_count cfg
 files_at cfg status.Usage = 0
 files_at cfg (status.ReadFault file) = place_of cfg file + 1
 files_at cfg (status.TooLong file limit) = place_of cfg file + 1
+files_at cfg status.BadToml = 1
+files_at cfg (status.IllConfig why) = 1
+files_at cfg (status.TooMany core runs entries) = 1
 files_at cfg status.WriteFault = file_count cfg
 files_at cfg status.OutOfMemory = 0
+files_at cfg status.ManyVms = 1
 files_at cfg (status.NotBuilt part.Words) = 0
 files_at cfg (status.NotBuilt part.Config) = 1
 files_at cfg (status.NotBuilt part.Schedule) = file_count cfg
@@ -97,8 +101,12 @@ IsRefused shelf config schedule (status.ReadFault file) =
     × HasFailed shelf (name_of sample config schedule file)
 IsRefused shelf config schedule (status.TooLong file limit) =
     IsToldRuling shelf config schedule (Refused (status.TooLong file limit)) × IsFaultless shelf
+IsRefused shelf config schedule status.BadToml = ⊥
+IsRefused shelf config schedule (status.IllConfig why) = ⊥
+IsRefused shelf config schedule (status.TooMany core runs entries) = ⊥
 IsRefused shelf config schedule status.WriteFault = ⊥
 IsRefused shelf config schedule status.OutOfMemory = IsFaultless shelf
+IsRefused shelf config schedule status.ManyVms = ⊥
 IsRefused shelf config schedule (status.NotBuilt part) =
     IsToldRuling shelf config schedule (Refused (status.NotBuilt part)) × IsPartOfFiles part × IsFaultless shelf
 
@@ -142,6 +150,10 @@ IsFetch shelf wanted (Err (status.ReadFault file)) = (file ≡ wanted.blamed) ×
 IsFetch shelf wanted (Err (status.TooLong file limit)) =
     IfTold shelf.held wanted.name (λ content. IsSomeAnd content (λ bytes. wanted.limit < length bytes))
     × (file ≡ wanted.file) × (limit ≡ wanted.limit) × IsFaultless shelf
+IsFetch shelf wanted (Err status.BadToml) = ⊥
+IsFetch shelf wanted (Err (status.IllConfig why)) = ⊥
+IsFetch shelf wanted (Err (status.TooMany core runs entries)) = ⊥
 IsFetch shelf wanted (Err status.WriteFault) = ⊥
 IsFetch shelf wanted (Err status.OutOfMemory) = IsFaultless shelf
+IsFetch shelf wanted (Err status.ManyVms) = ⊥
 IsFetch shelf wanted (Err (status.NotBuilt part)) = ⊥

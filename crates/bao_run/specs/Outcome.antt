@@ -85,8 +85,12 @@ Outcome call status.Done = ForSomeInput (IsDone call)
 Outcome call status.Usage = (command_of call.words ≡ Unknown) × IsRuled call status.Usage
 Outcome call (status.ReadFault file) = IsReadFault call file
 Outcome call (status.TooLong file limit) = IsRun call × IsRuled call (status.TooLong file limit)
+Outcome call status.BadToml = ⊥
+Outcome call (status.IllConfig why) = ⊥
+Outcome call (status.TooMany core runs entries) = ⊥
 Outcome call status.WriteFault = ForSomeInput (IsRunTo call status.WriteFault)
 Outcome call status.OutOfMemory = IsOutOfMemory call
+Outcome call status.ManyVms = ⊥
 Outcome call (status.NotBuilt part.Words) =
     (command_of call.words ≡ Unbuilt) × IsRuled call (status.NotBuilt part.Words)
 Outcome call (status.NotBuilt part.Config) = IsRun call × IsRuled call (status.NotBuilt part.Config)

@@ -1,7 +1,9 @@
 -- What the other laws of a well-formed configuration need: places, granules, and where maps end.
-use Rattle.std.proofs.Common.{◌≡◌, ℕ, suc, ◌+◌, ◌≤◌, ◌==◌, Bool, true, false, not, ◌&&◌, List, [], ◌∷◌, ◌++◌, map, filter, All, nat_lt, None, sym, subst, ap, ◌∙◌}
+use Rattle.std.proofs.Common.{◌≡◌, ℕ, suc, ◌+◌, ◌≤◌, ◌==◌, Bool, true, false, not, ◌&&◌, List, [], ◌∷◌, ◌++◌, map, filter, All, length, get_or, nat_le, nat_lt, None, sym, subst, ap, ◌∙◌, arith}
 use Rattle.std.specs.List.{flat_map}
 use Rattle.std.proofs.lemmas.Bool.{not-false, or_parts, ltb-false}
+use Rattle.std.proofs.lemmas.Bool.Decides.{nat_tests}
+use Rattle.std.proofs.lemmas.Option.{slice_get-get_or}
 use Rattle.std.proofs.lemmas.List.Elements.{All-head, All-tail, All-weaker}
 use Rattle.bao_types.specs.declared.range.ByteRange.{ByteRange}
 use Rattle.bao_types.specs.ByteRange.{address_space_end, end, is_within}
@@ -10,13 +12,13 @@ use Rattle.bao_config.specs.Data.{ConfigData, VmData}
 use Rattle.bao_wellformed.specs.declared.map.MapEntry.{MapEntry}
 use Rattle.bao_wellformed.specs.Map.{map_of}
 use Rattle.bao_wellformed.specs.Break.{indexed}
-use Rattle.bao_wellformed.specs.Rules.{all_ranges, distributor, redistributors, vm_ranges}
+use Rattle.bao_wellformed.specs.Rules.{all_ranges, distributor, foreign_cores, redistributors, vm_ranges}
 use Rattle.bao_wellformed.specs.ByteRules.{bounds_of, is_lacking, is_ram, kind_in, least_lacking, place_not_ram, start_not_executable, first_instruction, is_clash}
-use Rattle.bao_wellformed.specs.Laws.{ClashLeast, HypervisorInSpace, IsLeast, IsVm, LackingLeast, MapsGranular, MapsInSpace, PlacesOwn, StartsExecutable}
+use Rattle.bao_wellformed.specs.Laws.{ClashLeast, CoresOfPlatform, HypervisorInSpace, IsLeast, IsVm, LackingLeast, MapsGranular, MapsInSpace, PlacesOwn, StartsExecutable}
 use Rattle.bao_wellformed.specs.WellFormed.{IsWellFormed}
 use Rattle.bao_wellformed.proofs.Apart.{clash_changes}
 use Rattle.bao_wellformed.proofs.Bytes.{kind_alike, kind_changes, within_granule, within_next}
-use Rattle.bao_wellformed.proofs.Empty.{all_fail, all_of_viewed, indexed_got, map_empty, none_in_each, none_passes_in, none_passes_of, option_empty}
+use Rattle.bao_wellformed.proofs.Empty.{all_fail, all_of_viewed, indexed_got, map_empty, none_in_each, none_passes, none_passes_in, none_passes_of, option_empty}
 use Rattle.bao_wellformed.proofs.Fits.{EntryFits, map_all, map_fits, vm_fits}
 use Rattle.bao_wellformed.proofs.Kept.{kept}
 use Rattle.bao_wellformed.proofs.Least.{ChangesOnlyAt, least_of_all}
@@ -120,3 +122,12 @@ maps_in_space cfg v vm well_formed is = in_space cfg well_formed v vm is
 
 pub hypervisor_in_space : HypervisorInSpace
 hypervisor_in_space cfg well_formed = All-head EndsInSpace cfg.hyp (map (λ shmem. shmem.range) cfg.shmems) (of_hyp cfg well_formed)
+
+pub cores_of_platform : CoresOfPlatform
+cores_of_platform cfg v vm well_formed is k d low =
+    let nothing = none_in_each (λ (v, vm). foreign_cores cfg v vm) (indexed cfg.vms) (kept cfg well_formed).r10 v (v, vm) (indexed_got v cfg.vms vm is) in
+    let core = get_or vm.cores k d in
+    let own : nat_le (length cfg.platform.cores) core ≡ false =
+    none_passes (λ (j, core). nat_le (length cfg.platform.cores) core) (indexed vm.cores) (map_empty _ _ nothing) k (k, core)
+    (indexed_got k vm.cores core (slice_get-get_or vm.cores k d low)) in
+    grind (arith, nat_tests)

@@ -1,5 +1,5 @@
 -- What a well-formed configuration promises, in terms of its data and of the maps of its VMs.
-use Rattle.std.specs.Prelude.{◌≡◌, ◌≢◌, ℕ, ◌+◌, ◌%◌, ◌<◌, ◌≤◌, Bool, true, false, IsTrue, List, All, Option, Some, None, slice_get, ◌⊎◌, IsFalse, [], ◌∷◌}
+use Rattle.std.specs.Prelude.{◌≡◌, ◌≢◌, ℕ, ◌+◌, ◌%◌, ◌<◌, ◌≤◌, Bool, true, false, IsTrue, List, All, Option, Some, None, length, slice_get, ◌⊎◌, IsFalse, [], ◌∷◌}
 use Rattle.std.specs.List.{position_from}
 use Rattle.bao_types.specs.declared.range.ByteRange.{ByteRange}
 use Rattle.bao_types.specs.ByteRange.{address_space_end, end, is_within}
@@ -37,6 +37,12 @@ abbrev pub CoresOwned : Type 0
 CoresOwned =
     (cfg : ConfigData) (v : ℕ) (vm : VmData) (core : ℕ) → IsWellFormed cfg → IsVm cfg v vm → IsTrue (has_core core vm)
     → position_from (has_core core) 0 cfg.vms ≡ Some v
+
+-- each core of a VM is one of the platform's
+abbrev pub CoresOfPlatform : Type 0
+CoresOfPlatform =
+    (cfg : ConfigData) (v : ℕ) (vm : VmData) → IsWellFormed cfg → IsVm cfg v vm
+    → All (λ core. core < length cfg.platform.cores) vm.cores
 
 -- a port is one VM's at most
 abbrev pub PortsApart : Type 0

@@ -1,4 +1,4 @@
-ghost use Rattle.bao_wellformed.specs.Laws.{AloneWellFormed, MapsApart, CoresApart, CoresOwned, PortsApart, PlacesOwn, StartsExecutable, MapsGranular, HypervisorAbsent, FramesAbsent, MapsInSpace, HypervisorInSpace, LackingLeast, ClashLeast};
+ghost use Rattle.bao_wellformed.specs.Laws.{AloneWellFormed, MapsApart, CoresApart, CoresOfPlatform, CoresOwned, PortsApart, PlacesOwn, StartsExecutable, MapsGranular, HypervisorAbsent, FramesAbsent, MapsInSpace, HypervisorInSpace, LackingLeast, ClashLeast};
 
 /// The laws by which VMs are apart: a byte that two of them both have is a window of both on one shared memory, no core
 /// and no port is given to two, and each VM alone makes a well-formed configuration. The function does nothing; its contract is the laws.
@@ -10,10 +10,11 @@ pub fn laws_of_separation()
     ensures alone { AloneWellFormed }
 {}
 
-/// The laws of one VM's map: its place is memory of its own, it starts in memory that it may execute, each 64 bytes are of
+/// The laws of one VM: its cores are the platform's; and of its map: its place is memory of its own, it starts in memory that it may execute, each 64 bytes are of
 /// one kind, nothing of it is above 2^48, and neither the hypervisor's range nor an emulated frame of the interrupt
 /// controller is in it. The function does nothing; its contract is the laws.
 pub fn laws_of_maps()
+    ensures cores { CoresOfPlatform }
     ensures places { PlacesOwn }
     ensures starts { StartsExecutable }
     ensures granular { MapsGranular }

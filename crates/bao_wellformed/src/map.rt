@@ -2,7 +2,7 @@
 ghost use Rattle.std.specs.Prelude.{◌≡◌, ◌+◌, ◌<◌, ◌≤◌, ◌++◌, length, map, filter_map, option_to_list};
 ghost use Rattle.bao_config.specs.Config.{config_data};
 ghost use Rattle.bao_config.specs.Data.{vm_data, ipc_data};
-ghost use Rattle.bao_wellformed.specs.Map.{map_of, region_entry, dev_entry, ipc_entry, guard_entry, grant};
+ghost use Rattle.bao_wellformed.specs.Map.{map_of, region_entry, dev_entry, ipc_entry, guard_entry, grant, has_core};
 ghost use Rattle.bao_wellformed.specs.ByteRules.{cover, kind_in};
 
 use crate::ranges::port_range;
@@ -161,6 +161,13 @@ fn push_guards(entries: &mut ArrayVec<MapEntry, MAP_ENTRIES>, guards: &[ByteRang
     }
 }
 
+/// Whether the VM has this physical core among its own.
+pub fn has_core(vm: &Vm, core: u8) -> bool
+    ensures { result ≡ has_core core (vm_data vm.now) }
+{
+    vm.cores.iter().any(|own| *own == core)
+}
+
 /// The last of the entries that contains the byte.
 #[tactic(auto, using(crate::proofs::MapLemmas::reverse_more))]
 pub(crate) fn cover(entries: &[MapEntry], at: u64) -> Option<MapEntry>
@@ -176,7 +183,7 @@ pub(crate) fn cover(entries: &[MapEntry], at: u64) -> Option<MapEntry>
 }
 
 /// What the byte is in a map of these entries.
-pub(crate) fn kind_in(entries: &[MapEntry], at: u64) -> Kind
+pub fn kind_in(entries: &[MapEntry], at: u64) -> Kind
     ensures { result ≡ kind_in entries.now at }
 {
     match cover(entries, at) {

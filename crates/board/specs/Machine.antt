@@ -1,10 +1,10 @@
 -- The state of a board, as the hypervisor sees it, and what each call makes of it.
-use Rattle.std.specs.Prelude.{◌≡◌, ℕ, ◌+◌, ◌-◌, ◌<◌, ◌≤◌, ◌==◌, ◌&&◌, ◌⊎◌, nat_le, nat_lt, Bool, true, if◌then◌else◌, IsTrue, Option, is_none, List, [], ◌∷◌, All, map, length, replicate, slice_index, slice_index_or, slice_set}
-use Rattle.bao_types.specs.declared.range.ByteRange.{ByteRange}
+use Rattle.std.specs.Prelude.{◌≡◌, ℕ, ◌+◌, ◌-◌, ◌<◌, ◌≤◌, ◌==◌, ◌&&◌, ◌⊎◌, nat_le, nat_lt, Bool, true, if◌then◌else◌, IsTrue, IsFalse, Option, is_none, List, [], ◌∷◌, All, map, length, replicate, slice_index, slice_index_or, slice_set, sum}
+use Rattle.std.specs.List.{AllPairs, list_any}
 use Rattle.bao_types.specs.declared.region.Region.{Region}
-use Rattle.bao_types.specs.ByteRange.{address_space_end, end, is_within, is_in_one}
+use Rattle.bao_types.specs.ByteRange.{address_space_end, end, is_in_one, lies_in, overlaps}
 use Rattle.bao_types.specs.Region.{no_region, access_permission, covers, is_enabled, is_execute_never}
-use Rattle.bao_types.specs.Shape.{ShapeData, event_limit, is_port_of}
+use Rattle.bao_types.specs.Shape.{ShapeData, event_limit, is_port_of, port_range}
 use Rattle.a64_state.specs.Core.{CoreData}
 use Rattle.a64_state.specs.Registers.{reset_core}
 use Rattle.board.specs.Stage2.{by_entries}
@@ -39,14 +39,15 @@ is_used shape = is_in_one (λ range. range) shape.used
 abbrev pub is_port : ShapeData → ℕ → Bool
 is_port shape = is_port_of shape.ports
 
--- what a board can be fitted with today: one bank of at most 64 MiB, which ends at or below 2^48 and holds the used
--- ranges, and cores of at most 32 entries
+-- What a board can be fitted with: at most eight banks, which don't overlap, end at or below 2^48 and have at most 64 MiB together;
+-- ranges in use, each of which lies in one bank and overlaps no port; cores of at most 32 entries; and at most a million events
 pub record IsFittable (shape : ShapeData) : Type 0 where
-  pub bank : ByteRange
-  pub one_bank : shape.banks ≡ bank ∷ []
-  pub bank_size : bank.size ≤ 0x4000000
-  pub bank_end : end bank ≤ address_space_end
-  pub used : (at : ℕ) → IsTrue (is_used shape at) → IsTrue (is_within bank at)
+  pub bank_count : length shape.banks ≤ 8
+  pub banks_apart : AllPairs (λ one other. IsFalse (overlaps one other)) shape.banks
+  pub bank_ends : All (λ bank. end bank ≤ address_space_end) shape.banks
+  pub bank_sizes : sum (map (λ bank. bank.size) shape.banks) ≤ 0x4000000
+  pub used : All (λ range. IsTrue (list_any (lies_in range) shape.banks)) shape.used
+  pub ports_apart : All (λ range. All (λ port. IsFalse (overlaps range (port_range port.base))) shape.ports) shape.used
   pub entry_counts : All (λ place. place.entries ≤ 32) shape.cores
   pub events : shape.events ≤ event_limit
 

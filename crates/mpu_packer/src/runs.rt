@@ -10,9 +10,8 @@ ghost use Rattle.region_list.specs.Layers.{AreInSpace};
 ghost use Rattle.region_list.specs.Ranges.{class_of_byte};
 ghost use Rattle.region_list.specs.Runs.{AreMaximalRuns};
 
-use bao_config::Vm;
 use bao_types::{Class, OutOfMemory};
-use bao_wellformed::{Checked, MapEntry, grant, map_of};
+use bao_wellformed::{Checked, MapEntry, grant, has_core, map_of};
 use region_list::{Ranges, Run};
 use std::alloc::Global;
 
@@ -45,12 +44,6 @@ fn insert_guest(
         }
     }
     Ok(())
-}
-
-fn has_core(vm: &Vm, core: u8) -> bool
-    ensures { result ≡ has_core core (vm_data vm.now) }
-{
-    vm.cores.iter().any(|own| *own == core)
 }
 
 /// Lays the entries of a map over one another.

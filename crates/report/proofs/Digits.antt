@@ -1,9 +1,10 @@
 -- Lengths of numbers as text.
-use Rattle.std.proofs.Common.{◌≡◌, ℕ, zero, suc, ◌+◌, ◌-◌, ◌*◌, ◌/◌, ◌%◌, ◌^◌, ◌≤◌, ◌<◌, false, List, [], ◌∷◌, ◌++◌, length, take, get_or, refl, sym, ap, ◌∙◌, arith, length-append, length-take, sub-one, append_assoc, append-nil}
+use Rattle.std.proofs.Common.{◌≡◌, ℕ, zero, suc, ◌+◌, ◌-◌, ◌*◌, ◌/◌, ◌%◌, ◌≤◌, ◌<◌, false, List, [], ◌∷◌, ◌++◌, length, take, drop, get_or, refl, sym, ap, ◌∙◌, arith, length-append, length-take, sub-one, append_assoc, append-nil}
 use Rattle.std.proofs.lemmas.List.{take_more}
-use Rattle.std.proofs.lemmas.Fmt.{decimal_digit, decimal_step, length-decimal-le}
-use Rattle.std.specs.Fmt.{decimal, digit_glyph}
-use Rattle.report.specs.Digits.{hex, hex_bytes}
+use Rattle.std.proofs.lemmas.Bool.Decides.{nat_tests}
+use Rattle.std.specs.Prelude.{◌==◌, ◌≢◌, true}
+use Rattle.std.specs.Fmt.{digit_glyph}
+use Rattle.report.specs.Digits.{hex, hex_bytes, trimmed}
 
 pub length_hex : (k number : ℕ) → length (hex k number) ≡ k
 unfolding hex
@@ -35,17 +36,17 @@ hex_bytes_more bytes i low = rw (take_more bytes i 0 low) (hex_bytes_push (take 
 pub length_hex_bytes_take : (bytes : List ℕ) (i : ℕ) → i ≤ length bytes → length (hex_bytes (take i bytes)) ≡ 2 * i
 length_hex_bytes_take bytes i low = omega (arith, length_hex_bytes (take i bytes), length-take i bytes)
 
-pub decimal_one : (n : ℕ) → n < 10 → decimal n ≡ (48 + n) ∷ []
-decimal_one n low = decimal_digit n low
+-- a zero in front of other digits goes
+pub trimmed_more : (digits : List ℕ) → 1 < length digits → get_or digits 0 0 ≡ 48 → trimmed (drop 1 digits) ≡ trimmed digits
+unfolding trimmed
+trimmed_more [] many first = absurd (omega arith)
+trimmed_more (digit ∷ []) many first = absurd (omega arith)
+trimmed_more (digit ∷ next ∷ digits) many first = let e : (digit == 48) ≡ true = grind (arith, nat_tests) in rw e refl
 
-pub decimal_more : (n : ℕ) → 10 ≤ n → n < 2 ^ 32 → decimal n ≡ decimal (n / 10) ++ ((48 + n % 10) ∷ [])
-decimal_more n low high = decimal_step n low (omega arith)
-
-pub length_decimal_one : (n : ℕ) → n < 10 → length (decimal n) ≡ 1
-length_decimal_one n low = rw (decimal_digit n low) refl
-
-pub length_decimal_more : (n : ℕ) → 10 ≤ n → n < 2 ^ 32 → length (decimal n) ≡ length (decimal (n / 10)) + 1
-length_decimal_more n low high = ap length (decimal_more n low high) ∙ length-append (decimal (n / 10)) ((48 + n % 10) ∷ [])
-
-pub length_decimal_32 : (n : ℕ) → n < 2 ^ 32 → length (decimal n) ≤ 10
-length_decimal_32 n high = length-decimal-le 10 n (omega arith) (omega arith) (omega arith)
+-- where there is none, all stay
+pub trimmed_done : (digits : List ℕ) → (1 < length digits → get_or digits 0 0 ≢ 48) → trimmed digits ≡ digits
+unfolding trimmed
+trimmed_done [] other = refl
+trimmed_done (digit ∷ []) other = refl
+trimmed_done (digit ∷ next ∷ digits) other =
+    let some = other (omega arith) in let e : (digit == 48) ≡ false = grind (arith, nat_tests) in rw e refl

@@ -2,5 +2,6 @@ pub mod Digits
 pub mod Progress
 pub mod Texts
 pub mod Runs
-pub mod Sample
+pub mod Memory
+pub mod Lists
 pub mod Shown

@@ -14,7 +14,7 @@ use Rattle.vm_model.specs.Flat.{Flat, flat_run}
 use Rattle.vm_model.specs.Boot.{boot}
 use Rattle.vm_model.specs.Lone.{only, view, lone}
 use Rattle.report.specs.Lines.{vm_line, end_line, console_line, memory_line}
-use Rattle.report.specs.Section.{power_line, registers_text, core_text, cores_text, is_console, consoles_text, run_of, is_memory, are_zero, group_text, memory_text, all_groups, vm_text, section_of, section}
+use Rattle.report.specs.Section.{power_line, registers_text, core_text, cores_text, is_console, console_text, consoles_text, run_of, is_memory, are_zero, group_text, memory_text, all_groups, vm_text, section_of, section}
 use Rattle.vm_model.specs.Agree.{is_present, Agree}
 use Rattle.vm_model.specs.Apart.{IsGranular}
 use Rattle.report.specs.Alone.{ShowsAsIfAlone, ShowsNothingElse}
@@ -59,14 +59,14 @@ module _ (cfg : ConfigData) (vm : VmData) (f g : Flat) (agree : Agree cfg vm f g
       ∙ ap (λ t. core_text g j core ++ t) (cores_alike (j + 1) cores (λ c h. all c (in_rest (core == c) _ h)))
 
   consoles_alike : (devs : List Dev) → ((port : ℕ) → IsTrue (list_any (λ dev. dev.port == port) devs) → IsTrue (has_port port vm))
-      → consoles_text f devs ≡ consoles_text g devs
-  unfolding consoles_text
+      → consoles_text f.console devs ≡ consoles_text g.console devs
+  unfolding consoles_text console_text
   consoles_alike [] all = refl
   consoles_alike (dev ∷ devs) all =
       let self : (dev.port == dev.port) ≡ true = grind (arith, nat_tests) in
-      ap (λ output. (if is_console dev.port then console_line dev.port output else []) ++ consoles_text f devs)
+      ap (λ output. (if is_console dev.port then console_line dev.port output else []) ++ consoles_text f.console devs)
       (agree.consoles dev.port (all dev.port (rw self refl)))
-      ∙ ap (λ t. (if is_console dev.port then console_line dev.port (g.console dev.port) else []) ++ t)
+      ∙ ap (λ t. console_text g.console dev ++ t)
       (consoles_alike devs (λ port h. all port (in_rest (dev.port == port) _ h)))
 
   by_memory : (at : ℕ) (m : Bool) → is_memory (kind_at cfg vm at) ≡ m → at % 16 ≡ 0
@@ -79,35 +79,27 @@ module _ (cfg : ConfigData) (vm : VmData) (f g : Flat) (agree : Agree cfg vm f g
       (subst (λ kind. IsTrue (is_present kind)) (sym (granular at k aligned low)) (memory_present (kind_at cfg vm at) e))))
   by_memory at false e aligned = refl
 
-  memory_alike : (n at : ℕ) → at % 16 ≡ 0 → memory_text cfg vm f.bytes n at ≡ memory_text cfg vm g.bytes n at
+  memory_alike : (n at : ℕ) → at % 16 ≡ 0 → memory_text (kind_at cfg vm) f.bytes n at ≡ memory_text (kind_at cfg vm) g.bytes n at
   unfolding memory_text group_text
   memory_alike zero at aligned = refl
   memory_alike (suc n) at aligned =
-      ap (λ t. t ++ memory_text cfg vm f.bytes n (at + 16)) (by_memory at (is_memory (kind_at cfg vm at)) refl aligned)
-      ∙ ap (λ t. group_text cfg vm g.bytes at ++ t) (memory_alike n (at + 16) (omega arith))
+      ap (λ t. t ++ memory_text (kind_at cfg vm) f.bytes n (at + 16)) (by_memory at (is_memory (kind_at cfg vm at)) refl aligned)
+      ∙ ap (λ t. group_text (kind_at cfg vm) g.bytes at ++ t) (memory_alike n (at + 16) (omega arith))
 
   pub text_alike : vm_text cfg f vm ≡ vm_text cfg g vm
   unfolding vm_text
   text_alike =
-      ap (λ t. vm_line vm.name ++ (t ++ (consoles_text f vm.devs ++ (memory_text cfg vm f.bytes all_groups 0 ++ end_line vm.name))))
+      ap (λ t. vm_line vm.name ++ (t ++ (consoles_text f.console vm.devs ++ (memory_text (kind_at cfg vm) f.bytes all_groups 0 ++ end_line vm.name))))
       (cores_alike 0 vm.cores (λ c h. h))
-      ∙ ap (λ t. vm_line vm.name ++ (cores_text g 0 vm.cores ++ (t ++ (memory_text cfg vm f.bytes all_groups 0 ++ end_line vm.name))))
+      ∙ ap (λ t. vm_line vm.name ++ (cores_text g 0 vm.cores ++ (t ++ (memory_text (kind_at cfg vm) f.bytes all_groups 0 ++ end_line vm.name))))
       (consoles_alike vm.devs (λ port h. h))
-      ∙ ap (λ t. vm_line vm.name ++ (cores_text g 0 vm.cores ++ (consoles_text g vm.devs ++ (t ++ end_line vm.name))))
+      ∙ ap (λ t. vm_line vm.name ++ (cores_text g 0 vm.cores ++ (consoles_text g.console vm.devs ++ (t ++ end_line vm.name))))
       (memory_alike all_groups 0 refl)
 
 -- what is shown of a VM doesn't depend on the list of VMs
-module _ (cfg : ConfigData) (vms : List VmData) (vm : VmData) (g : Flat) where
-  memory_same : (n at : ℕ) → memory_text cfg vm g.bytes n at ≡ memory_text (record cfg { vms = vms }) vm g.bytes n at
-  unfolding memory_text group_text
-  memory_same zero at = refl
-  memory_same (suc n) at = ap (λ t. group_text cfg vm g.bytes at ++ t) (memory_same n (at + 16))
-
-  text_same : vm_text cfg g vm ≡ vm_text (record cfg { vms = vms }) g vm
-  unfolding vm_text
-  text_same =
-      ap (λ t. vm_line vm.name ++ (cores_text g 0 vm.cores ++ (consoles_text g vm.devs ++ (t ++ end_line vm.name))))
-      (memory_same all_groups 0)
+text_same : (cfg : ConfigData) (vms : List VmData) (vm : VmData) (g : Flat) → vm_text cfg g vm ≡ vm_text (record cfg { vms = vms }) g vm
+unfolding vm_text
+text_same cfg vms vm g = refl
 
 pub shows_as_if_alone : ShowsAsIfAlone
 shows_as_if_alone cfg images events v vm apart granular steps =

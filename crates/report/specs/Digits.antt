@@ -1,5 +1,5 @@
 -- Numbers as text.
-use Rattle.std.specs.Prelude.{ℕ, zero, suc, ◌/◌, ◌%◌, false, List, [], ◌∷◌, ◌++◌}
+use Rattle.std.specs.Prelude.{ℕ, zero, suc, ◌/◌, ◌%◌, ◌==◌, if◌then◌else◌, false, List, [], ◌∷◌, ◌++◌, codes}
 use Rattle.std.specs.Fmt.{digit_glyph}
 
 -- so many hexadecimal digits, in lower case, the last one last
@@ -11,3 +11,13 @@ hex (suc k) number = hex k (number / 16) ++ digit_glyph false (number % 16) ∷ 
 unfoldable pub hex_bytes : List ℕ → List ℕ
 hex_bytes [] = []
 hex_bytes (byte ∷ bytes) = hex 2 byte ++ hex_bytes bytes
+
+-- digits without the zeros in front; the last digit stays
+unfoldable pub trimmed : List ℕ → List ℕ
+trimmed [] = []
+trimmed (digit ∷ []) = digit ∷ []
+trimmed (digit ∷ next ∷ digits) = if digit == 48 then trimmed (next ∷ digits) else digit ∷ next ∷ digits
+
+-- `0x` and the hexadecimal digits of a number of 64 bits, without zeros in front
+unfoldable pub short_hex : ℕ → List ℕ
+short_hex number = codes "0x" ++ trimmed (hex 16 number)

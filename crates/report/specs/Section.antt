@@ -9,7 +9,9 @@ use Rattle.bao_wellformed.specs.declared.map.Kind.TheVariants.{Ram, Port, Window
 use Rattle.bao_wellformed.specs.Map.{kind_at}
 use Rattle.board.specs.Machine.{core_at}
 use Rattle.board.specs.View.{view_of}
-use Rattle.vm_model.specs.Flat.{Flat, Power, On, Off}
+use Rattle.vm_model.specs.declared.power.Power.{Power}
+use Rattle.vm_model.specs.declared.power.Power.TheVariants.{On, Off}
+use Rattle.vm_model.specs.Flat.{Flat}
 use Rattle.report.specs.Lines.{vm_line, end_line, core_on_line, core_off_line, register_line, nonzero_line, x_name, console_line, memory_line, done_line}
 
 -- the general registers from a number on
@@ -61,10 +63,12 @@ abbrev pub is_console : ℕ → Bool
 is_console port = nat_lt port 8
 
 -- the VM's consoles, in the order of its devs
-unfoldable pub consoles_text : Flat → List Dev → List ℕ
-consoles_text f [] = []
-consoles_text f (dev ∷ devs) =
-    (if is_console dev.port then console_line dev.port (f.console dev.port) else []) ++ consoles_text f devs
+unfoldable pub console_text : (ℕ → List ℕ) → Dev → List ℕ
+console_text console dev = if is_console dev.port then console_line dev.port (console dev.port) else []
+
+unfoldable pub consoles_text : (ℕ → List ℕ) → List Dev → List ℕ
+consoles_text console [] = []
+consoles_text console (dev ∷ devs) = console_text console dev ++ consoles_text console devs
 
 -- so many bytes from an address on
 unfoldable pub run_of : (ℕ → ℕ) → ℕ → ℕ → List ℕ
@@ -82,14 +86,14 @@ abbrev pub are_zero : List ℕ → Bool
 are_zero bytes = list_all (λ byte. byte == 0) bytes
 
 -- 16 bytes where the VM has memory and they aren't all zero. Its ranges are multiples of 64, so the first byte tells
-unfoldable pub group_text : ConfigData → VmData → (ℕ → ℕ) → ℕ → List ℕ
-group_text cfg vm bytes at =
-    if is_memory (kind_at cfg vm at) && not (are_zero (run_of bytes at 16)) then memory_line at (run_of bytes at 16) else []
+unfoldable pub group_text : (ℕ → Kind) → (ℕ → ℕ) → ℕ → List ℕ
+group_text kinds bytes at =
+    if is_memory (kinds at) && not (are_zero (run_of bytes at 16)) then memory_line at (run_of bytes at 16) else []
 
 -- so many groups of 16 bytes from an address on
-unfoldable pub memory_text : ConfigData → VmData → (ℕ → ℕ) → ℕ → ℕ → List ℕ
-memory_text cfg vm bytes zero at = []
-memory_text cfg vm bytes (suc n) at = group_text cfg vm bytes at ++ memory_text cfg vm bytes n (at + 16)
+unfoldable pub memory_text : (ℕ → Kind) → (ℕ → ℕ) → ℕ → ℕ → List ℕ
+memory_text kinds bytes zero at = []
+memory_text kinds bytes (suc n) at = group_text kinds bytes at ++ memory_text kinds bytes n (at + 16)
 
 -- the whole address space, 2^48 bytes
 abbrev pub all_groups : ℕ
@@ -100,8 +104,8 @@ unfoldable pub vm_text : ConfigData → Flat → VmData → List ℕ
 vm_text cfg f vm =
     vm_line vm.name
     ++ (cores_text f 0 vm.cores
-    ++ (consoles_text f vm.devs
-    ++ (memory_text cfg vm f.bytes all_groups 0 ++ end_line vm.name)))
+    ++ (consoles_text f.console vm.devs
+    ++ (memory_text (kind_at cfg vm) f.bytes all_groups 0 ++ end_line vm.name)))
 
 abbrev pub section_of : ConfigData → Flat → Option VmData → List ℕ
 section_of cfg f None = []

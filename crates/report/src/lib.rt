@@ -5,13 +5,15 @@
 #![tactic(auto)]
 
 pub use alone::{a_vm_shows_as_if_alone, a_vm_shows_nothing_else};
+pub use packing::write_packing;
 pub use refusal::write_refusal;
-pub use status::{FileId, Part, Status};
+pub use status::{FileId, Part, Status, Why};
 pub use whole::write_report;
 
 mod alone;
 mod line;
 mod lines;
+mod packing;
 mod refusal;
 mod section;
 mod status;

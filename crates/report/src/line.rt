@@ -1,15 +1,15 @@
 ghost use Rattle.std.specs.Prelude.{◌≡◌, ◌+◌, ◌*◌, ◌<◌, ◌≤◌, ◌++◌, false, length};
-ghost use Rattle.std.specs.Fmt.{decimal, digit_glyph};
-ghost use Rattle.report.specs.Digits.{hex, hex_bytes};
+ghost use Rattle.std.specs.Fmt.{decimal, digit_glyph, signed_decimal};
+ghost use Rattle.report.specs.Digits.{hex, hex_bytes, short_hex, trimmed};
 
 use arrayvec::ArrayVec;
 
 /// A line of text that is being built.
-pub type Line = ArrayVec<u8, 64>;
+pub type Line = ArrayVec<u8, 160>;
 
 /// Appends a text.
 pub fn push_text(line: &mut Line, text: &[u8])
-    requires { length line.old.items + length text.now ≤ 64 }
+    requires { length line.old.items + length text.now ≤ 160 }
     ensures text { line.new.items ≡ line.old.items ++ text.now }
     ensures len { length line.new.items ≡ length line.old.items + length text.now }
 {
@@ -17,32 +17,56 @@ pub fn push_text(line: &mut Line, text: &[u8])
 }
 
 /// Appends a number, without leading zeros: at most ten digits.
-#[tactic(auto, using(crate::proofs::Digits::length_decimal_32))]
 pub fn push_decimal(line: &mut Line, number: u32)
-    requires { length line.old.items ≤ 54 }
+    requires { length line.old.items ≤ 150 }
     ensures text { line.new.items ≡ line.old.items ++ decimal number }
     ensures len { length line.new.items ≤ length line.old.items + 10 }
 {
-    push_digits(line, number);
+    let mut digits = itoa::Buffer::new();
+    push_text(line, digits.format(number).as_bytes());
 }
 
-#[tactic(auto, using(crate::proofs::Digits::decimal_one, crate::proofs::Digits::decimal_more, crate::proofs::Digits::length_decimal_one, crate::proofs::Digits::length_decimal_more))]
-fn push_digits(line: &mut Line, number: u32)
-    requires { length line.old.items + length (decimal number) ≤ 64 }
-    ensures { line.new.items ≡ line.old.items ++ decimal number }
+/// Appends a number that may be negative, without leading zeros: at most 20 bytes.
+pub fn push_signed(line: &mut Line, number: i64)
+    requires { length line.old.items ≤ 140 }
+    ensures text { line.new.items ≡ line.old.items ++ signed_decimal number }
+    ensures len { length line.new.items ≤ length line.old.items + 20 }
 {
-    if number < 10 {
-        line.push(b'0' + number as u8);
-    } else {
-        push_digits(line, number / 10);
-        line.push(b'0' + (number % 10) as u8);
+    let mut digits = itoa::Buffer::new();
+    push_text(line, digits.format(number).as_bytes());
+}
+
+/// Appends `0x` and the hexadecimal digits of a number, without leading zeros: at most 18 bytes.
+#[tactic(auto, using(crate::proofs::Digits::length_hex), unfolding(crate::specs::Digits::short_hex))]
+pub fn push_short_hex(line: &mut Line, number: u64)
+    requires { length line.old.items ≤ 142 }
+    ensures text { line.new.items ≡ line.old.items ++ short_hex number }
+    ensures len { length line.new.items ≤ length line.old.items + 18 }
+{
+    let mut digits = Line::new();
+    push_hex(&mut digits, 16, number);
+    push_text(line, b"0x");
+    push_text(line, trimmed(&digits));
+}
+
+/// The digits without the zeros in front. The last digit stays.
+#[tactic(auto, using(crate::proofs::Digits::trimmed_more, crate::proofs::Digits::trimmed_done))]
+fn trimmed(digits: &[u8]) -> &[u8]
+    ensures text { result.now ≡ trimmed digits.now }
+    ensures len { length result.now ≤ length digits.now }
+{
+    let mut rest = digits;
+    while rest.len() > 1 && rest[0] == b'0' {
+        let (_zero, others) = rest.split_at(1);
+        rest = others;
     }
+    rest
 }
 
 /// Appends so many hexadecimal digits of a number, the lowest ones.
 #[tactic(auto, using(crate::proofs::Digits::hex_more, crate::proofs::Digits::length_hex), unfolding(crate::specs::Digits::hex))]
 pub fn push_hex(line: &mut Line, digits: u32, number: u64)
-    requires { length line.old.items + digits ≤ 64 }
+    requires { length line.old.items + digits ≤ 160 }
     ensures text { line.new.items ≡ line.old.items ++ hex digits number }
     ensures len { length line.new.items ≡ length line.old.items + digits }
 {
@@ -55,7 +79,7 @@ pub fn push_hex(line: &mut Line, digits: u32, number: u64)
 /// Appends two digits for each byte.
 #[tactic(auto, using(crate::proofs::Digits::hex_bytes_more, crate::proofs::Digits::length_hex_bytes_take), unfolding(crate::specs::Digits::hex_bytes))]
 pub fn push_hex_bytes(line: &mut Line, bytes: &[u8])
-    requires { length line.old.items + 2 * length bytes.now ≤ 64 }
+    requires { length line.old.items + 2 * length bytes.now ≤ 160 }
     ensures text { line.new.items ≡ line.old.items ++ hex_bytes bytes.now }
     ensures len { length line.new.items ≡ length line.old.items + 2 * length bytes.now }
 {

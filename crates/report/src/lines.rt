@@ -1,11 +1,13 @@
 ghost use Rattle.std.specs.Prelude.{◌≡◌, ◌+◌, ◌*◌, ◌<◌, ◌≤◌, ◌++◌, length};
 ghost use Rattle.outside.specs.Sink.{Takes, HasCause};
-ghost use Rattle.report.specs.Lines.{vm_line, end_line, core_on_line, register_line, nonzero_line, x_name, console_head, memory_line, newline};
+ghost use Rattle.report.specs.Lines.{vm_line, end_line, register_line, nonzero_line, x_name, console_head, memory_line, newline};
 ghost use Rattle.std.specs.Fmt.{decimal};
 ghost use Rattle.report.specs.Digits.{hex};
+ghost use Rattle.report.specs.Section.{power_line};
 
 use crate::line::{Line, push_decimal, push_hex, push_hex_bytes, push_text};
 use outside::{Sink, SinkFailed};
+use vm_model::Power;
 
 /// `vm NAME`
 #[tactic(auto, unfolding(crate::specs::Lines::vm_line))]
@@ -94,13 +96,16 @@ pub fn put_nonzero<K: Sink>(sink: &mut K, name: &[u8], value: u64) -> Result<(),
     put_register(sink, name, 16, value)
 }
 
-/// `core J on`
-#[tactic(auto, unfolding(crate::specs::Lines::core_on_line))]
-pub fn put_core_on<K: Sink>(sink: &mut K, j: u8) -> Result<(), SinkFailed>
-    ensures taken { Takes (K.taken sink.old) (K.taken sink.new) (core_on_line j) result }
+/// `core J on` or `core J off`. A core that the machine doesn't have is off.
+#[tactic(auto, unfolding(crate::specs::Lines::core_on_line, crate::specs::Lines::core_off_line))]
+pub fn put_core<K: Sink>(sink: &mut K, j: u8, power: Option<Power>) -> Result<(), SinkFailed>
+    ensures taken { Takes (K.taken sink.old) (K.taken sink.new) (power_line j power) result }
     ensures cause { HasCause (K.faults sink.old) (K.faults sink.new) result }
 {
-    put_numbered(sink, b"core ", u32::from(j), b" on\n")
+    match power {
+        Some(Power::On) => put_numbered(sink, b"core ", u32::from(j), b" on\n"),
+        Some(Power::Off) | None => put_numbered(sink, b"core ", u32::from(j), b" off\n"),
+    }
 }
 
 /// A general register, where it isn't zero.

@@ -1,5 +1,8 @@
 ghost use Rattle.std.specs.Prelude.{◌≡◌};
 
+use bao_config::Spot;
+use bao_wellformed::Ill;
+
 /// A file that a command reads.
 #[derive(Clone, Copy, Debug, PartialEq, Eq)]
 pub enum FileId {
@@ -21,6 +24,17 @@ pub enum Part {
     Event(u32),
 }
 
+/// Why bytes are no configuration that the program takes. It is the first cause in the order of the keys and rules.
+#[derive(Clone, Copy, Debug, PartialEq, Eq)]
+pub enum Why {
+    /// What stands at the spot isn't of the row's kind, or a key is missing or unknown.
+    Shape { spot: Spot },
+    /// The integer at the spot is outside its bounds.
+    Value { spot: Spot, value: i64 },
+    /// A rule of well-formed configurations is broken.
+    Rule { ill: Ill },
+}
+
 /// How the program ends.
 #[derive(Clone, Copy, Debug, PartialEq, Eq)]
 pub enum Status {
@@ -32,9 +46,17 @@ pub enum Status {
     ReadFault { file: FileId },
     /// A file has more bytes than its limit.
     TooLong { file: FileId, limit: u32 },
+    /// The configuration is no TOML document.
+    BadToml,
+    /// The document spells no configuration, or one that isn't well formed.
+    IllConfig { why: Why },
+    /// This core is the first that has more runs than entries.
+    TooMany { core: u8, runs: u32, entries: u8 },
     /// The text wasn't taken whole.
     WriteFault,
     OutOfMemory,
+    /// More VMs are to run than are built yet.
+    ManyVms,
     /// A part of the input isn't built yet.
     NotBuilt { part: Part },
 }
@@ -51,8 +73,12 @@ impl Status {
             Status::Usage => 2,
             Status::ReadFault { .. } => 3,
             Status::TooLong { .. } => 4,
+            Status::BadToml => 5,
+            Status::IllConfig { .. } => 6,
+            Status::TooMany { .. } => 7,
             Status::WriteFault => 9,
             Status::OutOfMemory => 10,
+            Status::ManyVms => 11,
             Status::NotBuilt { .. } => 12,
         }
     }

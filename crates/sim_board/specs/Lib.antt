@@ -1,4 +1,5 @@
-pub mod Bank
+pub mod Banks
+pub mod Memory
 pub mod Step
 pub mod Guard
 pub mod Sound

@@ -3,14 +3,14 @@ use Rattle.std.specs.Prelude.{[], map, is_some}
 use Rattle.bao_types.specs.Shape.{shape_data}
 use Rattle.board.specs.Machine.{Machine}
 use Rattle.sim_board.specs.declared.machine.SimBoard.{SimBoard}
-use Rattle.sim_board.specs.Bank.{held_bytes}
+use Rattle.sim_board.specs.Memory.{held_bytes}
 
 abbrev pub state_of : SimBoard → Machine
 state_of board =
     record {
-      fitted = is_some board.bank;
+      fitted = is_some board.memory;
       shape = shape_data board.shape;
-      bytes = held_bytes board.bank;
+      bytes = held_bytes board.memory;
       cores = board.cores.items;
       entries = map (λ entries. entries.items) board.entries.items;
       console = λ port. [];

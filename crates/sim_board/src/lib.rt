@@ -7,7 +7,8 @@
 
 pub use machine::SimBoard;
 
-mod bank;
+mod banks;
 mod guard;
 mod machine;
+mod memory;
 mod step;

@@ -5,8 +5,8 @@ ghost use Rattle.bao_types.specs.Region.{no_region};
 ghost use Rattle.board.specs.Machine.{entries_at};
 ghost use Rattle.sim_board.specs.Sound.{IsSound};
 
-use crate::bank::Bank;
 use crate::guard::Guard;
+use crate::memory::Memory;
 use crate::step::step_core;
 use a64_state::Core;
 use arrayvec::ArrayVec;
@@ -18,8 +18,8 @@ use std::alloc::{AllocError, Global};
 #[derive(Drop)]
 pub struct SimBoard {
     shape: Shape,
-    /// The memory; none before the board is fitted.
-    bank: Option<Bank>,
+    /// None before the board is fitted.
+    memory: Option<Memory>,
     cores: Vec<Core>,
     /// The EL2 entries of each core.
     entries: Vec<ArrayVec<Region, 32>>,
@@ -27,7 +27,7 @@ pub struct SimBoard {
     count: u64,
     entered: u64,
     spent: u64,
-    ghost sound: { IsSound shape bank (length cores.items) (map (λ e. e.items) entries.items) entered spent },
+    ghost sound: { IsSound shape memory (length cores.items) (map (λ e. e.items) entries.items) entered spent },
 }
 
 impl SimBoard {
@@ -40,7 +40,7 @@ impl SimBoard {
     {
         SimBoard {
             shape: Shape::default(),
-            bank: None,
+            memory: None,
             cores: Vec::new(alloc),
             entries: Vec::new(alloc),
             count: 0,
@@ -119,12 +119,12 @@ impl Board for SimBoard {
 
     fn fit(&mut self, alloc: Global, shape: &Shape) -> Result<(), OutOfMemory> {
         let copy = copy_shape(shape)?;
-        let bank = Bank::new(alloc, shape.banks[0])?;
+        let memory = Memory::new(alloc, &shape.banks)?;
         let cores = reset_cores(alloc, &shape.cores)?;
         let entries = zero_entries(alloc, &shape.cores)?;
         *self = SimBoard {
             shape: copy,
-            bank: Some(bank),
+            memory: Some(memory),
             cores,
             entries,
             count: 0,
@@ -135,12 +135,10 @@ impl Board for SimBoard {
     }
 
     fn load(&mut self, at: u64, bytes: &[u8]) {
-        let Some(bank) = &mut self.bank else {
+        let Some(memory) = &mut self.memory else {
             unreachable!()
         };
-        if !bytes.is_empty() {
-            bank.copy_in(at, bytes);
-        }
+        memory.copy_in(at, bytes);
     }
 
     fn set_entry(&mut self, core: u8, index: u8, entry: Region) {
@@ -165,7 +163,7 @@ impl Board for SimBoard {
     }
 
     fn step(&mut self, core: u8, now: u64) -> Exit {
-        let Some(bank) = &mut self.bank else {
+        let Some(memory) = &mut self.memory else {
             unreachable!()
         };
         let at = usize::from(core);
@@ -173,7 +171,7 @@ impl Board for SimBoard {
             entries: &self.entries[at],
             ports: &self.shape.ports,
         };
-        let exit = step_core(&mut self.cores[at], bank, &guard, now);
+        let exit = step_core(&mut self.cores[at], memory, &guard, now);
         self.count = now;
         self.entered += 1;
         self.spent += 1;
@@ -181,10 +179,10 @@ impl Board for SimBoard {
     }
 
     fn byte_at(&self, at: u64) -> u8 {
-        let Some(bank) = &self.bank else {
+        let Some(memory) = &self.memory else {
             unreachable!()
         };
-        bank.byte_at(at)
+        memory.byte_at(at)
     }
 
     fn core_view(&self, core: u8) -> CoreView {

@@ -4,12 +4,12 @@ ghost use Rattle.a64_execute.specs.Want.{wanted, access_asked, bytes_of, IsAcces
 ghost use Rattle.a64_execute.specs.Finish.{finished};
 ghost use Rattle.board.specs.Attempt.{attempt, effect_of, stores_from};
 ghost use Rattle.board.specs.Machine.{written};
-ghost use Rattle.sim_board.specs.Bank.{bank_bytes};
+ghost use Rattle.sim_board.specs.Memory.{memory_bytes};
 ghost use Rattle.sim_board.specs.Guard.{guarded, IsContained};
 ghost use Rattle.sim_board.specs.Step.{carried_out};
 
-use crate::bank::Bank;
 use crate::guard::Guard;
+use crate::memory::Memory;
 use a64_address::MemShape;
 use a64_decode::{Instr, decode};
 use a64_execute::{Need, complete, complete_access, want};
@@ -19,35 +19,35 @@ use board::Exit;
 
 /// Lets a core execute the instruction at its PC, at the system count `now`.
 #[tactic(auto, unfolding(board::specs::Attempt::attempt))]
-pub(crate) fn step_core(core: &mut Core, bank: &mut Bank, guard: &Guard<'_>, now: u64) -> Exit
-    requires { IsContained bank.old.range guard.now }
-    ensures range { bank.new.range ≡ bank.old.range }
-    ensures end { record { core = core.new; bytes = bank_bytes bank.new; exit = result }
-        ≡ carried_out (attempt (guarded guard.now (bank_bytes bank.old)) core.old now) core.old (bank_bytes bank.old) }
+pub(crate) fn step_core(core: &mut Core, memory: &mut Memory, guard: &Guard<'_>, now: u64) -> Exit
+    requires { IsContained memory.old.banks.items guard.now }
+    ensures banks { memory.new.banks.items ≡ memory.old.banks.items }
+    ensures end { record { core = core.new; bytes = memory_bytes memory.new; exit = result }
+        ≡ carried_out (attempt (guarded guard.now (memory_bytes memory.old)) core.old now) core.old (memory_bytes memory.old) }
 {
-    match fetch(bank, guard, core.pc) {
-        Some(word) => execute(core, bank, guard, now, &decode(word)),
+    match fetch(memory, guard, core.pc) {
+        Some(word) => execute(core, memory, guard, now, &decode(word)),
         None => Exit::Unbuilt,
     }
 }
 
 /// Executes an instruction that was fetched.
-fn execute(core: &mut Core, bank: &mut Bank, guard: &Guard<'_>, now: u64, instr: &Instr) -> Exit
+fn execute(core: &mut Core, memory: &mut Memory, guard: &Guard<'_>, now: u64, instr: &Instr) -> Exit
     requires lawful { IsLawful instr.now }
-    requires contained { IsContained bank.old.range guard.now }
-    ensures range { bank.new.range ≡ bank.old.range }
-    ensures end { record { core = core.new; bytes = bank_bytes bank.new; exit = result }
-        ≡ carried_out (effect_of (guarded guard.now (bank_bytes bank.old)) core.old now instr.now (wanted core.old instr.now))
-        core.old (bank_bytes bank.old) }
+    requires contained { IsContained memory.old.banks.items guard.now }
+    ensures banks { memory.new.banks.items ≡ memory.old.banks.items }
+    ensures end { record { core = core.new; bytes = memory_bytes memory.new; exit = result }
+        ≡ carried_out (effect_of (guarded guard.now (memory_bytes memory.old)) core.old now instr.now (wanted core.old instr.now))
+        core.old (memory_bytes memory.old) }
 {
     match want(core, instr) {
         Need::Done => finish(core, now, instr),
-        Need::Load { shape } => match load(bank, guard, &shape) {
+        Need::Load { shape } => match load(memory, guard, &shape) {
             Some(got) => finish_access(core, now, instr, &shape, got),
             None => Exit::Unbuilt,
         },
         Need::Store { shape, value } => {
-            if store(bank, guard, &shape, value) {
+            if store(memory, guard, &shape, value) {
                 finish_access(core, now, instr, &shape, 0)
             } else {
                 Exit::Unbuilt
@@ -82,44 +82,44 @@ fn finish_access(core: &mut Core, now: u64, instr: &Instr, shape: &MemShape, got
 }
 
 /// The word at `pc`, where it may be fetched.
-fn fetch(bank: &Bank, guard: &Guard<'_>, pc: u64) -> Option<u32>
-    ensures { result ≡ (guarded guard.now (bank_bytes bank.now)).fetched pc }
+fn fetch(memory: &Memory, guard: &Guard<'_>, pc: u64) -> Option<u32>
+    ensures { result ≡ (guarded guard.now (memory_bytes memory.now)).fetched pc }
 {
     if pc % 4 == 0 && guard.reaches_all(Access::Exec, pc, 4) {
-        Some(bank.number_at(pc, 4) as u32)
+        Some(memory.number_at(pc, 4) as u32)
     } else {
         None
     }
 }
 
 /// The bytes of an access, where all of them may be read.
-fn load(bank: &Bank, guard: &Guard<'_>, shape: &MemShape) -> Option<u128>
+fn load(memory: &Memory, guard: &Guard<'_>, shape: &MemShape) -> Option<u128>
     requires { IsAccess shape.now }
-    ensures { result ≡ (guarded guard.now (bank_bytes bank.now)).loaded shape.now.at (bytes_of shape.now) }
+    ensures { result ≡ (guarded guard.now (memory_bytes memory.now)).loaded shape.now.at (bytes_of shape.now) }
 {
     let count = byte_count(shape);
     if guard.reaches_all(Access::Read, shape.at, count) {
-        Some(bank.number_at(shape.at, count))
+        Some(memory.number_at(shape.at, count))
     } else {
         None
     }
 }
 
 /// Stores the bytes of an access, where all of them may be written. Where not, none is.
-fn store(bank: &mut Bank, guard: &Guard<'_>, shape: &MemShape, value: u128) -> bool
+fn store(memory: &mut Memory, guard: &Guard<'_>, shape: &MemShape, value: u128) -> bool
     requires access { IsAccess shape.now }
-    requires contained { IsContained bank.old.range guard.now }
-    ensures range { bank.new.range ≡ bank.old.range }
-    ensures stored { result ≡ (guarded guard.now (bank_bytes bank.old)).can_store shape.now.at (bytes_of shape.now) }
-    ensures bytes { bank_bytes bank.new ≡ (if result
-        then written (stores_from shape.now.at (bytes_of shape.now) value) (bank_bytes bank.old)
-        else bank_bytes bank.old) }
+    requires contained { IsContained memory.old.banks.items guard.now }
+    ensures banks { memory.new.banks.items ≡ memory.old.banks.items }
+    ensures stored { result ≡ (guarded guard.now (memory_bytes memory.old)).can_store shape.now.at (bytes_of shape.now) }
+    ensures bytes { memory_bytes memory.new ≡ (if result
+        then written (stores_from shape.now.at (bytes_of shape.now) value) (memory_bytes memory.old)
+        else memory_bytes memory.old) }
 {
     let count = byte_count(shape);
     if !guard.reaches_all(Access::Write, shape.at, count) {
         return false;
     }
-    bank.store(shape.at, count, value);
+    memory.store(shape.at, count, value);
     true
 }
 

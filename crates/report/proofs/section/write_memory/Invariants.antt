@@ -1,13 +1,17 @@
-use Rattle.std.proofs.Common.{◌≡◌, ◌+◌, ◌-◌, ◌*◌}
-use Rattle.report.specs.Groups.{groups_text}
-use Rattle.report.proofs.Progress.{IsUnderWay}
+use Rattle.std.proofs.Common.{◌≡◌, ◌≤◌, ◌-◌, ◌*◌}
+use Rattle.bao_wellformed.specs.ByteRules.{kind_in}
+use Rattle.outside.proofs.Puts.{Reached}
+use Rattle.report.specs.Section.{memory_text, all_groups}
 use Rattle.report.proofs.section.write_memory.Given as goal
 
-abbrev pub invariant-loop-i : goal.invariant-loop-i
-invariant-loop-i g l = record {
-  text : IsUnderWay (g.K.Sink.taken l.initial.sink) (g.K.Sink.taken l.sink)
-      (groups_text (g.B.Board.state l.board).bytes l.groups l.first)
-      (groups_text (g.B.Board.state l.board).bytes (l.groups - l.i) l.at);
-  place : l.at ≡ l.first + 16 * l.i;
+abbrev pub invariant-loop-group : goal.invariant-loop-group
+invariant-loop-group g l = record {
+  text : Reached (g.K.Sink.taken l.initial.sink) (g.K.Sink.taken l.sink)
+      (memory_text (kind_in l.map) (g.B.Board.state l.board).bytes all_groups 0)
+      (memory_text (kind_in l.map) (g.B.Board.state l.board).bytes (all_groups - l.group) (16 * l.group));
+  low : l.group ≤ all_groups;
   faults : g.K.Sink.faults l.sink ≡ g.K.Sink.faults l.initial.sink;
 }
+
+abbrev pub decreases-loop-group : goal.decreases-loop-group
+decreases-loop-group g l = all_groups - l.group

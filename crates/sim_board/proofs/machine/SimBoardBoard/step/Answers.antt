@@ -8,7 +8,7 @@ use Rattle.bao_types.specs.Shape.{shape_data}
 use Rattle.pmsa_stage2.specs.Stage2.{stage2}
 use Rattle.board.specs.Attempt.{reaches}
 use Rattle.bao_types.specs.Shape.{is_port_of}
-use Rattle.sim_board.specs.Bank.{is_held}
+use Rattle.sim_board.specs.Memory.{is_held}
 use Rattle.sim_board.specs.Sound.{IsConfined}
 use Rattle.sim_board.proofs.Confined.{confined_store}
 use Rattle.sim_board.proofs.machine.SimBoardBoard.step.Goals as goal
@@ -26,6 +26,6 @@ step_core-exit-requires c =
     let confined : All (IsConfined (shape_data self.shape)) c.deref.result.now =
     subst (All (IsConfined (shape_data self.shape))) same
     (All-get_or (All (IsConfined (shape_data self.shape))) lists core [] (omega (arith, low, length-map self.entries.items (λ e. e.items))) self.sound.confined) in
-    let bank : self.bank ≡ Some c.in-Some.bank = search rules in
-    λ at stored. subst (λ b. IsTrue (is_held b at)) bank (self.sound.used at (confined_store (shape_data self.shape) at c.deref.result.now confined
+    let memory : self.memory ≡ Some c.in-Some.memory = search rules in
+    λ at stored. subst (λ m. IsTrue (is_held m at)) memory (self.sound.used at (confined_store (shape_data self.shape) at c.deref.result.now confined
     (subst (λ ports. IsTrue (reaches (stage2 c.deref.result.now) (is_port_of ports) Write at)) c.deref-2.ensures.0 stored)))
