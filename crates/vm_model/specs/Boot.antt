@@ -38,12 +38,19 @@ abbrev pub boot_power : Option VmData → ℕ → Power
 boot_power None core = Off
 boot_power (Some vm) core = power_of_vm (virtual_core vm core)
 
+-- the cores of the platform, and their powers
+abbrev pub boot_cores : ConfigData → List CoreData
+boot_cores cfg = map (λ place. boot_core (owner cfg place.0) place.0) (enumerate_from 0 cfg.platform.cores)
+
+abbrev pub boot_powers : ConfigData → List Power
+boot_powers cfg = map (λ place. boot_power (owner cfg place.0) place.0) (enumerate_from 0 cfg.platform.cores)
+
 abbrev pub boot : ConfigData → List (List ℕ) → Flat
 boot cfg images =
     record {
       bytes = boot_bytes cfg.vms images;
-      cores = map (λ place. boot_core (owner cfg place.0) place.0) (enumerate_from 0 cfg.platform.cores);
-      powers = map (λ place. boot_power (owner cfg place.0) place.0) (enumerate_from 0 cfg.platform.cores);
+      cores = boot_cores cfg;
+      powers = boot_powers cfg;
       console = λ port. [];
       count = 0;
     }

@@ -1,0 +1,14 @@
+//! The creation of VMs: the shape of the board that a configuration asks for, and the boot of all its VMs on such a board.
+//!
+//! Nothing here takes memory. After the boot memory, cores and powers are those with which the model begins.
+#![tactic(auto)]
+
+pub use boot::boot;
+pub use owner::{owner, virtual_core};
+pub use power::boot_powers;
+pub use shape::shape_for;
+
+mod boot;
+mod owner;
+mod power;
+mod shape;
