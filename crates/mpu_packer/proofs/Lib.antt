@@ -4,3 +4,5 @@ pub mod LeastNumber
 pub mod Owners
 pub mod Realised
 pub mod Verdicts
+pub mod OneList
+pub mod Exact

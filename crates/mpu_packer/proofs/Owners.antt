@@ -32,7 +32,7 @@ laid_is cfg core old new hyp laid same guest at = by_test (is_within hyp at) ref
     by_test false e = rw e (laid.outside at e ∙ guest at)
 
 -- the first that passes stands at a place
-found_got : {A : Type 0} (p : A → Bool) (xs : List A) (x : A) → find p xs ≡ Some x → (place : ℕ) × (slice_get xs place ≡ Some x)
+pub found_got : {A : Type 0} (p : A → Bool) (xs : List A) (x : A) → find p xs ≡ Some x → (place : ℕ) × (slice_get xs place ≡ Some x)
 found_got p [] x e = cc
 found_got {A} p (y ∷ ys) x e = by_test (p y) e (found_got p ys x)
   where

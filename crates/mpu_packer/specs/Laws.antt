@@ -1,5 +1,7 @@
 -- What entries that realise the classes of a core promise.
 use Rattle.std.specs.Prelude.{◌≡◌, ℕ, ◌≤◌, List, length}
+use Rattle.bao_types.specs.ByteRange.{address_space_end}
+use Rattle.bao_types.specs.declared.access.Class.TheVariants.{Nothing}
 use Rattle.bao_types.specs.declared.access.Access.{Access}
 use Rattle.bao_types.specs.declared.access.Class.{Class}
 use Rattle.bao_types.specs.declared.region.Region.{Region}
@@ -9,6 +11,7 @@ use Rattle.pmsa_stage2.specs.Stage2.{stage2}
 use Rattle.region_list.specs.declared.run.Run.{Run}
 use Rattle.region_list.specs.Runs.{AreMaximalRuns}
 use Rattle.mpu_packer.specs.Packing.{Realises, enabled_count}
+use Rattle.mpu_packer.specs.Runs.{all_runs}
 
 -- each access to each byte has the verdict of the map
 abbrev pub GivesTheMap : Type 0
@@ -21,3 +24,9 @@ abbrev pub HasNoFewer : Type 0
 HasNoFewer =
     (class_of : ℕ → Class) (runs : List Run) (entries : List Region) → AreMaximalRuns class_of runs → Realises entries class_of
     → length runs ≤ enabled_count entries
+
+-- where no byte outside the address space is in a run, there is one list of maximal runs
+abbrev pub HasOneList : Type 0
+HasOneList =
+    (classes : ℕ → Class) (runs : List Run) → AreMaximalRuns classes runs → ((at : ℕ) → address_space_end ≤ at → classes at ≡ Nothing)
+    → runs ≡ all_runs classes

@@ -1,3 +1,4 @@
 pub mod Packing
 pub mod Plan
 pub mod Laws
+pub mod Runs

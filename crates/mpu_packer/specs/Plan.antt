@@ -8,6 +8,7 @@ use Rattle.mpu_packer.specs.declared.packing.PackError.{PackError}
 use Rattle.mpu_packer.specs.declared.packing.PackError.TheVariants.{TooMany, OutOfMemory}
 use Rattle.mpu_packer.specs.declared.entries.Plan.{Plan}
 use Rattle.mpu_packer.specs.Packing.{entry_of}
+use Rattle.mpu_packer.specs.Runs.{core_runs}
 
 -- the plan has one entry and one start for each maximal run of the core, and the core has so many entries
 pub record IsPacking (cfg : ConfigData) (core : ℕ) (plan : Plan) : Type 0 where
@@ -31,3 +32,8 @@ pub record HasTooMany (cfg : ConfigData) (core count most : ℕ) : Type 0 where
 abbrev pub TellsTooMany : ConfigData → ℕ → PackError → Type 0
 TellsTooMany cfg core (TooMany runs entries) = HasTooMany cfg core runs entries
 TellsTooMany cfg core OutOfMemory = ⊤
+
+-- the number that is told is that of the core's runs
+abbrev pub CountsRuns : ConfigData → ℕ → PackError → Type 0
+CountsRuns cfg core (TooMany runs entries) = runs ≡ length (core_runs cfg core)
+CountsRuns cfg core OutOfMemory = ⊤

@@ -2,7 +2,8 @@ ghost use Rattle.std.specs.Prelude.{◌≡◌, ◌<◌, IfOk, IfErr, length};
 ghost use Rattle.bao_wellformed.specs.Checked.{checked_data};
 ghost use Rattle.bao_wellformed.specs.Map.{class_of};
 ghost use Rattle.mpu_packer.specs.Packing.{Realises};
-ghost use Rattle.mpu_packer.specs.Plan.{IsPacking, TellsTooMany};
+ghost use Rattle.mpu_packer.specs.Plan.{CountsRuns, IsPacking, TellsTooMany};
+ghost use Rattle.mpu_packer.specs.Runs.{packing_of};
 
 use crate::entries::{Plan, plan_of};
 use crate::runs::runs_of;
@@ -28,7 +29,9 @@ pub fn pack(alloc: Global, checked: &Checked, core: u8) -> Result<Plan, PackErro
     ensures packing { IfOk result (IsPacking (checked_data checked.now) core) }
     ensures realises { IfOk result (λ plan.
         Realises plan.entries.items (class_of (checked_data checked.now) core)) }
+    ensures entries { IfOk result (λ plan. plan.entries.items ≡ packing_of (checked_data checked.now) core) }
     ensures refused { IfErr result (TellsTooMany (checked_data checked.now) core) }
+    ensures counted { IfErr result (CountsRuns (checked_data checked.now) core) }
 {
     let runs = match runs_of(alloc, checked, core) {
         Ok(runs) => runs,

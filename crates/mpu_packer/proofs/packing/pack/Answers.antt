@@ -5,6 +5,7 @@ use Rattle.bao_wellformed.specs.Checked.{checked_data}
 use Rattle.bao_wellformed.specs.Map.{class_of}
 use Rattle.region_list.specs.declared.run.Run.{Run}
 use Rattle.mpu_packer.specs.Packing.{Realises, entry_of}
+use Rattle.mpu_packer.proofs.Exact.{packing_is, count_is}
 use Rattle.mpu_packer.proofs.Granules.{IsAligned, all_aligned}
 use Rattle.mpu_packer.proofs.Owners.{class_granular, entries_of_core}
 use Rattle.mpu_packer.proofs.Realised.{realises_runs}
@@ -32,6 +33,11 @@ returns-then-len-entries-clause-packing c =
       fits = omega arith;
     }
 
+pub returns-then-len-entries-clause-entries : goal.returns-then-len-entries-clause-entries
+returns-then-len-entries-clause-entries c =
+    packing_is (checked_data c.args.checked.now) c.args.core c.args.checked.now.well_formed c.plan_of.result
+    (returns-then-len-entries-clause-packing c)
+
 pub returns-then-len-entries-clause-realises : goal.returns-then-len-entries-clause-realises
 returns-then-len-entries-clause-realises c =
     let cfg = checked_data c.args.checked.now in
@@ -52,3 +58,8 @@ returns-in-Ok-try_from-clause-refused c =
           c.requires;
       too_many = omega (arith, counted);
     }
+
+pub returns-in-Ok-try_from-clause-counted : goal.returns-in-Ok-try_from-clause-counted
+returns-in-Ok-try_from-clause-counted c =
+    count_is (checked_data c.args.checked.now) c.args.core c.args.checked.now.well_formed _ _
+    (returns-in-Ok-try_from-clause-refused c)
