@@ -1,12 +1,13 @@
 -- The words of the command line.
-use Rattle.std.specs.Prelude.{ℕ, ◌+◌, ◌-◌, ◌*◌, ◌^◌, ◌==◌, ◌&&◌, ◌||◌, nat_lt, not, Bool, true, false, if◌then◌else◌, List, [], ◌∷◌, codes, fold}
+use Rattle.std.specs.Prelude.{ℕ, ◌+◌, ◌-◌, ◌*◌, ◌^◌, ◌==◌, ◌&&◌, nat_lt, not, Bool, true, false, if◌then◌else◌, List, [], ◌∷◌, codes, fold}
 use Rattle.std.specs.Cmp.Lexicographic.{pointwise}
 use Rattle.std.specs.List.{list_all}
 use Rattle.std.specs.Char.{is_ascii_digit}
 
--- the words name a configuration and a schedule to run, or a command that isn't built, or nothing
+-- the words name a configuration and a schedule to run, or a configuration to check, or a command that isn't built, or nothing
 pub data Command : Type 0 where
   Run : (config schedule : List ℕ) → Command
+  Check : (config : List ℕ) → Command
   Unbuilt : Command
   Unknown : Command
 
@@ -28,14 +29,14 @@ has_no_leading_zero (first ∷ second ∷ digits) = not (first == 48)
 abbrev pub is_number : List ℕ → Bool
 is_number text = has_no_leading_zero text && (list_all is_ascii_digit text && nat_lt (value_of text) (2 ^ 32))
 
--- `check` with a configuration, or `gen` with a number
+-- `gen` with a number
 abbrev pub is_unbuilt : List ℕ → List ℕ → Bool
-is_unbuilt verb word = same verb (codes "check") || (same verb (codes "gen") && is_number word)
+is_unbuilt verb word = same verb (codes "gen") && is_number word
 
--- by how many words there are: `run` has a configuration and a schedule after it
+-- by how many words there are: `check` has a configuration after it, and `run` a configuration and a schedule
 abbrev pub command_of : List (List ℕ) → Command
 command_of [] = Unknown
 command_of (verb ∷ []) = Unknown
-command_of (verb ∷ word ∷ []) = if is_unbuilt verb word then Unbuilt else Unknown
+command_of (verb ∷ word ∷ []) = if same verb (codes "check") then Check word else if is_unbuilt verb word then Unbuilt else Unknown
 command_of (verb ∷ config ∷ schedule ∷ []) = if same verb (codes "run") then Run config schedule else Unknown
 command_of (verb ∷ config ∷ schedule ∷ other ∷ rest) = Unknown

@@ -1,39 +1,84 @@
-ghost use Rattle.std.specs.Prelude.{◌≡◌, Ok};
-ghost use Rattle.bao_config.specs.Answer.{spelled};
-ghost use Rattle.report.specs.Sample.{sample};
-ghost use Rattle.bao_run.specs.Ruling.{is_sample};
+ghost use Rattle.std.specs.Prelude.{◌≡◌, ◌+◌, ◌<◌, IfOk, IfErr, length};
+ghost use Rattle.bao_wellformed.specs.Checked.{checked_data};
+ghost use Rattle.report.specs.declared.status.Status.{Status};
+ghost use Rattle.vm_create.specs.Boot.{ArePlans};
+ghost use Rattle.bao_run.specs.Reading.{IsConfigAnswer, IsOverfull, IsPackable};
+ghost use Rattle.bao_run.specs.Ruling.{status_of};
 
-/// The text of the one configuration that is accepted today.
-pub const SAMPLE_TEXT: &[u8] = b"version = 1
-[platform]
-banks = [{ base = 0x0, size = 0x200000 }]
-cores = [16]
-gicd = 0xaf000000
-gicr = 0xaf100000
-ports = [{ id = 0, base = 0x9c090000, spi = 32 }]
-[hypervisor]
-base = 0x0
-size = 0x10000
-[[vm]]
-name = \"a\"
-image = \"a.bin\"
-load = 0x100000
-room = 0x8000
-entry = 0x100000
-cores = [0]
-regions = [{ base = 0x100000, size = 0x10000, access = \"rwx\" }]
-devs = [{ port = 0, irq = 40 }]
-";
+use crate::fetch::fetch;
+use bao_config::{ConfigError, read_config};
+use bao_wellformed::{CheckError, Checked, check};
+use mpu_packer::{PackError, Plan, pack};
+use outside::Shelf;
+use report::{FileId, Status, Why};
+use std::alloc::Global;
 
-/// Whether the bytes are that text.
-pub fn is_sample(bytes: &[u8]) -> bool
-    ensures { result ≡ is_sample bytes.now }
-{
-    bytes == SAMPLE_TEXT
+/// How many bytes a configuration may have.
+const CONFIG_LIMIT: u32 = 65_536;
+
+/// A well-formed configuration with the packings of its cores, in their order.
+#[derive(Drop)]
+pub struct Packed {
+    pub checked: Checked,
+    pub plans: Vec<Plan>,
 }
 
-/// The accepted text spells the configuration of which model and report speak. The function does nothing; its contract is
-/// the law.
-pub fn the_sample_text_spells_the_sample()
-    ensures { spelled SAMPLE_TEXT.now ≡ Ok sample }
-{}
+/// Reads the configuration of this name.
+pub fn read_checked<S: Shelf>(alloc: Global, shelf: &mut S, config: &str) -> Result<Checked, Status>
+    ensures held { S.held shelf.new ≡ S.held shelf.old }
+    ensures answer { IsConfigAnswer (record {
+      held = S.held shelf.old;
+      before = record { faults = S.faults shelf.old; culprit = S.culprit shelf.old };
+      after = record { faults = S.faults shelf.new; culprit = S.culprit shelf.new };
+    }) config.now result }
+{
+    let file = FileId::Config;
+    let text = fetch(alloc, shelf, file, file, config, CONFIG_LIMIT)?;
+    let config = match read_config(alloc, &text) {
+        Ok(config) => config,
+        Err(fault) => return Err(status_of(fault)),
+    };
+    match check(alloc, config) {
+        Ok(checked) => Ok(checked),
+        Err(CheckError::Ill(ill)) => Err(Status::IllConfig {
+            why: Why::Rule { ill },
+        }),
+        Err(CheckError::OutOfMemory) => Err(Status::OutOfMemory),
+    }
+}
+
+/// The status of a fault in the text of a configuration.
+fn status_of(fault: ConfigError) -> Status
+    ensures { result ≡ status_of fault }
+{
+    match fault {
+        ConfigError::BadToml => Status::BadToml,
+        ConfigError::BadShape { spot } => Status::IllConfig {
+            why: Why::Shape { spot },
+        },
+        ConfigError::BadValue { spot, value } => Status::IllConfig {
+            why: Why::Value { spot, value },
+        },
+        ConfigError::OutOfMemory => Status::OutOfMemory,
+    }
+}
+
+/// The packings of all cores, in their order; or the first core that has none, and why.
+pub fn pack_all(alloc: Global, checked: &Checked) -> Result<Vec<Plan>, (u8, PackError)>
+    ensures plans { IfOk result (λ plans. ArePlans (checked_data checked.now) plans.items) }
+    ensures packable { IfOk result (λ plans. IsPackable (checked_data checked.now)) }
+    ensures overfull { IfErr result (λ e. IsOverfull (checked_data checked.now) e.0 e.1) }
+{
+    let mut plans = Vec::new(alloc);
+    for core in 0..checked.config().platform.cores.len() {
+        let core = core as u8;
+        let plan = match pack(alloc, checked, core) {
+            Ok(plan) => plan,
+            Err(fault) => return Err((core, fault)),
+        };
+        if plans.push(plan).is_err() {
+            return Err((core, PackError::OutOfMemory));
+        }
+    }
+    Ok(plans)
+}

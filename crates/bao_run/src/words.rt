@@ -6,6 +6,8 @@ ghost use Rattle.bao_run.specs.Command.{command_data};
 pub enum Command<'a> {
     /// To run a schedule over a configuration, each the name of a file.
     Run { config: &'a str, schedule: &'a str },
+    /// To show the packing of a configuration, the name of a file.
+    Check { config: &'a str },
     /// Something that isn't built yet.
     Unbuilt,
     /// Nothing.
@@ -17,6 +19,9 @@ pub fn read_words(words: &[String]) -> Command<'_>
     ensures { command_data result ≡ command_of (map string_bytes words.now) }
 {
     match words {
+        [verb, config] if verb.as_str() == "check" => Command::Check {
+            config: config.as_str(),
+        },
         [verb, word] if is_unbuilt(verb.as_str(), word.as_str()) => Command::Unbuilt,
         [verb, config, schedule] if verb.as_str() == "run" => Command::Run {
             config: config.as_str(),
@@ -26,11 +31,11 @@ pub fn read_words(words: &[String]) -> Command<'_>
     }
 }
 
-/// Whether the words are `check` with a configuration or `gen` with a number.
+/// Whether the words are `gen` with a number.
 fn is_unbuilt(verb: &str, word: &str) -> bool
     ensures { result ≡ is_unbuilt verb.now word.now }
 {
-    verb == "check" || verb == "gen" && is_number(word.as_bytes())
+    verb == "gen" && is_number(word.as_bytes())
 }
 
 /// Whether a text is a decimal number from 0 to 2^32 - 1, without leading zeros.

@@ -1,0 +1,56 @@
+ghost use Rattle.std.specs.Prelude.{◌≡◌, unwrap_or};
+ghost use Rattle.bao_wellformed.specs.Checked.{checked_data};
+ghost use Rattle.report.specs.declared.status.FileId.TheVariants as file;
+ghost use Rattle.bao_run.specs.Words.{Run};
+ghost use Rattle.bao_run.specs.Input.{files_of, first_named};
+ghost use Rattle.bao_run.specs.Reading.{IsImagesAnswer};
+
+use crate::fetch::fetch;
+use bao_wellformed::Checked;
+use outside::Shelf;
+use report::{FileId, Status};
+use std::alloc::Global;
+
+/// Reads the image of each VM, in their order. An image has at most the bytes of its VM's room.
+pub fn read_images<S: Shelf>(
+    alloc: Global,
+    shelf: &mut S,
+    config: &str,
+    schedule: &str,
+    checked: &Checked,
+) -> Result<Vec<Vec<u8>>, Status>
+    ensures held { S.held shelf.new ≡ S.held shelf.old }
+    ensures answer { IsImagesAnswer (record {
+      held = S.held shelf.old;
+      before = record { faults = S.faults shelf.old; culprit = S.culprit shelf.old };
+      after = record { faults = S.faults shelf.new; culprit = S.culprit shelf.new };
+    }) config.now schedule.now (checked_data checked.now) result }
+{
+    let mut images = Vec::new(alloc);
+    for (v, vm) in checked.config().vms.as_slice().iter().enumerate() {
+        let name = vm.image.as_str();
+        let blamed = first_named(config, schedule, checked, name);
+        let limit = u32::try_from(vm.place.size).unwrap_or(u32::MAX);
+        let image = fetch(alloc, shelf, FileId::Image(v as u8), blamed, name, limit)?;
+        if images.push(image).is_err() {
+            return Err(Status::OutOfMemory);
+        }
+    }
+    Ok(images)
+}
+
+/// The first file of a run that has this name, the schedule's where no other has it.
+pub fn first_named(config: &str, schedule: &str, checked: &Checked, name: &str) -> FileId
+    ensures { let cfg = checked_data checked.now in
+        result ≡ unwrap_or (first_named name.now (files_of (Run config.now schedule.now) cfg)) file.Schedule }
+{
+    if config == name {
+        return FileId::Config;
+    }
+    for (v, vm) in checked.config().vms.as_slice().iter().enumerate() {
+        if vm.image.as_str() == name {
+            return FileId::Image(v as u8);
+        }
+    }
+    FileId::Schedule
+}
