@@ -1,5 +1,3 @@
-pub mod Sample
-pub mod Shape
 pub mod Packed
 pub mod Words
 pub mod Command
@@ -7,8 +5,9 @@ pub mod Schedule
 pub mod MatchSchedule
 pub mod Call
 pub mod Ruling
-pub mod Fresh
 pub mod Input
+pub mod Reading
+pub mod Ready
 pub mod Outcome
 pub mod Play
 pub mod Steps

@@ -18,22 +18,36 @@ use Rattle.bao_run.specs.Input.{IfHeld, IsFileOf, IsFirstOfName, IsReached, name
 use Rattle.bao_run.specs.Schedule.{schedule_of}
 use Rattle.bao_run.specs.Play.{IsUnfitted, IsPlayed}
 
--- the words ask for a run
-abbrev pub IsRun : Call → Type 0
-IsRun call = (config : List ℕ) × ((schedule : List ℕ) × (command_of call.words ≡ Run config schedule))
+-- the words ask for a command that reads files
+abbrev pub Reads : Command → Type 0
+Reads (Run config schedule) = ⊤
+Reads (Check config) = ⊤
+Reads Unbuilt = ⊥
+Reads Unknown = ⊥
 
--- what a run can be made of: the one configuration, an image for each of its VMs, each of at most its room, and events that a
--- schedule spells
+abbrev pub IsRun : Command → Type 0
+IsRun (Run config schedule) = ⊤
+IsRun (Check config) = ⊥
+IsRun Unbuilt = ⊥
+IsRun Unknown = ⊥
+
+abbrev pub IsCheck : Command → Type 0
+IsCheck (Run config schedule) = ⊥
+IsCheck (Check config) = ⊤
+IsCheck Unbuilt = ⊥
+IsCheck Unknown = ⊥
+
+-- what a run can be made of: a well-formed configuration whose cores all have a packing, an image for each of its VMs, each of at
+-- most its room, and events that a schedule spells
 pub record IsRunnable (input : InputData) : Type 0 where
-  pub config : input.cfg ≡ sample
-  pub count : length input.images ≡ length input.cfg.vms
-  pub fit : (v : ℕ) (vm : VmData) (image : List ℕ) → slice_get input.cfg.vms v ≡ Some vm → slice_get input.images v ≡ Some image
-      → length image ≤ vm.place.size
+  pub well_formed : IsWellFormed input.cfg
+  pub fits : ConfigFits input.cfg
+  pub rooms : FitRooms input.cfg input.images
   pub spelled : (schedule : List ℕ) × (schedule_of schedule ≡ Some input.events)
 
 -- an accepted input: the told contents are accepted with it, and it can be run
 pub record IsAccepted (call : Call) (input : InputData) : Type 0 where
-  pub run : IsRun call
+  pub run : IsRun (command_of call.words)
   pub runnable : IsRunnable input
   pub told : IfHeld call.shelf.held (λ files. ruling call.words files ≡ Accept input)
   pub read : IsFaultless call.shelf
@@ -49,15 +63,9 @@ pub record IsRuled (call : Call) (status : Status) : Type 0 where
   pub read : IsFaultless call.shelf
   pub refused : IsRefusedAtOnce call status
 
--- the shelf failed at a file whose turn it was, the first of its name
+-- the shelf failed at a file of the command
 pub record IsReadFault (call : Call) (file : FileId) : Type 0 where
-  pub config : List ℕ
-  pub schedule : List ℕ
-  pub run : command_of call.words ≡ Run config schedule
-  pub is_file : IsFileOf sample file
-  pub first : IsFirstOfName sample config schedule file
-  pub told : IfHeld call.shelf.held (λ files. IsReached sample (ruling call.words files) file)
-  pub failed : HasFailed call.shelf (name_of sample config schedule file)
+  pub fault : IsFaultAt call.shelf (command_of call.words) file
   pub refused : IsRefusedAtOnce call (status.ReadFault file)
 
 -- an accepted input was run, as far as this status says
@@ -69,9 +77,19 @@ pub record IsRunTo (call : Call) (status : Status) (input : InputData) : Type 0 
 abbrev pub IsDone : Call → InputData → Type 0
 IsDone call = IsRunTo call status.Done
 
+-- a well-formed configuration's packing was put out whole, or was cut short; the board stays
+pub record IsChecked (call : Call) (put : SinkUse → List ℕ → Type 0) : Type 0 where
+  pub check : IsCheck (command_of call.words)
+  pub cfg : ConfigData
+  pub well_formed : IsWellFormed cfg
+  pub told : IfHeld call.shelf.held (λ files. ruling call.words files ≡ Shown cfg)
+  pub read : IsFaultless call.shelf
+  pub board : call.board.after ≡ call.board.before
+  pub text : put call.sink (packing_text cfg (packings cfg))
+
 -- memory ran out: the board isn't fitted, and its ports' states stay
 pub record IsOutOfMemory (call : Call) : Type 0 where
-  pub run : IsRun call
+  pub reads : Reads (command_of call.words)
   pub read : IsFaultless call.shelf
   pub unfitted : IsUnfitted call.board
   pub line : IsPut call.sink (refusal_text status.OutOfMemory)
@@ -81,20 +99,21 @@ ForSomeInput P = (input : InputData) × P input
 
 -- what each answer means
 abbrev pub Outcome : Call → Status → Type 0
-Outcome call status.Done = ForSomeInput (IsDone call)
+Outcome call status.Done = ForSomeInput (IsDone call) ⊎ IsChecked call IsTaken
 Outcome call status.Usage = (command_of call.words ≡ Unknown) × IsRuled call status.Usage
 Outcome call (status.ReadFault file) = IsReadFault call file
-Outcome call (status.TooLong file limit) = IsRun call × IsRuled call (status.TooLong file limit)
-Outcome call status.BadToml = ⊥
-Outcome call (status.IllConfig why) = ⊥
-Outcome call (status.TooMany core runs entries) = ⊥
-Outcome call status.WriteFault = ForSomeInput (IsRunTo call status.WriteFault)
+Outcome call (status.TooLong file limit) = Reads (command_of call.words) × IsRuled call (status.TooLong file limit)
+Outcome call status.BadToml = Reads (command_of call.words) × IsRuled call status.BadToml
+Outcome call (status.IllConfig why) = Reads (command_of call.words) × IsRuled call (status.IllConfig why)
+Outcome call (status.TooMany core runs entries) =
+    Reads (command_of call.words) × IsRuled call (status.TooMany core runs entries)
+Outcome call status.WriteFault = ForSomeInput (IsRunTo call status.WriteFault) ⊎ IsChecked call IsCut
 Outcome call status.OutOfMemory = IsOutOfMemory call
-Outcome call status.ManyVms = ⊥
+Outcome call status.ManyVms = IsRun (command_of call.words) × IsRuled call status.ManyVms
 Outcome call (status.NotBuilt part.Words) =
     (command_of call.words ≡ Unbuilt) × IsRuled call (status.NotBuilt part.Words)
-Outcome call (status.NotBuilt part.Config) = IsRun call × IsRuled call (status.NotBuilt part.Config)
-Outcome call (status.NotBuilt part.Schedule) = IsRun call × IsRuled call (status.NotBuilt part.Schedule)
+Outcome call (status.NotBuilt part.Config) = IsRun (command_of call.words) × IsRuled call (status.NotBuilt part.Config)
+Outcome call (status.NotBuilt part.Schedule) = IsRun (command_of call.words) × IsRuled call (status.NotBuilt part.Schedule)
 Outcome call (status.NotBuilt (part.Event number)) = ForSomeInput (IsRunTo call (status.NotBuilt (part.Event number)))
 
 -- the sections of VMs, each after its own run alone on the machine

@@ -1,20 +1,20 @@
 -- What the parts of a run answer, between the reading of the files and the report.
-use Rattle.std.specs.Prelude.{◌≡◌, ℕ, true, false, List, [], ◌∷◌, Result, Ok, Err, Option, None, Some, length}
+use Rattle.std.specs.Prelude.{◌≡◌, ℕ, true, false, List, Result, Ok, Err, Option, None, Some, length}
 use Rattle.bao_types.specs.declared.memory.OutOfMemory.{OutOfMemory}
 use Rattle.report.specs.declared.status.Part.TheVariants as part
 use Rattle.report.specs.declared.status.Status.{Status}
 use Rattle.report.specs.declared.status.Status.TheVariants as status
 use Rattle.report.specs.Section.{report}
 use Rattle.report.specs.Status.{refusal_text}
-use Rattle.board.specs.Machine.{Machine}
+use Rattle.board.specs.Machine.{Machine, fitted_with}
 use Rattle.vm_model.specs.Flat.{Flat, flat_run, entered_count, first_unbuilt}
-use Rattle.vm_model.specs.Boot.{boot}
+use Rattle.vm_model.specs.declared.power.Power.{Power}
+use Rattle.vm_model.specs.Boot.{boot, boot_powers}
 use Rattle.vm_model.specs.Project.{project}
 use Rattle.bao_run.specs.Call.{InputData, SinkUse, BoardUse, IsTaken, IsCut, IsPut}
-use Rattle.bao_run.specs.Shape.{shape_of}
-use Rattle.bao_run.specs.Sample.{sample_packing}
-use Rattle.bao_run.specs.Packed.{ArePacked}
-use Rattle.bao_run.specs.Fresh.{booted_machine}
+use Rattle.vm_create.specs.Boot.{all_filled, booted}
+use Rattle.vm_create.specs.Shape.{shape_of}
+use Rattle.bao_run.specs.Packed.{ArePacked, packings}
 
 -- the machine of the model at boot, and after all events
 abbrev pub booted : InputData → Flat
@@ -28,13 +28,13 @@ abbrev pub first_halt : InputData → Option ℕ
 first_halt input = first_unbuilt input.cfg (booted input) 0 input.events
 
 -- All events were run: the board has the shape of the configuration for so many events; the entries of each core realise the
--- map, and are the packing with zero entries after it; each event whose core ran has entered it; and memory, cores and consoles
+-- map, and are its packing with zero entries after it; each event whose core ran has entered it; and memory, cores and consoles
 -- are those of the model.
 pub record IsRunThrough (m : Machine) (input : InputData) : Type 0 where
   pub fitted : m.fitted ≡ true
   pub shape : m.shape ≡ shape_of input.cfg (length input.events)
   pub packed : ArePacked input.cfg m.entries
-  pub entries : m.entries ≡ sample_packing ∷ []
+  pub entries : m.entries ≡ all_filled input.cfg.platform.cores (packings input.cfg)
   pub entered : m.entered ≡ entered_count input.cfg (booted input) input.events
   pub state : project (booted input).powers m ≡ final input
   pub built : first_halt input ≡ None
@@ -44,9 +44,12 @@ abbrev pub IsUnfitted : BoardUse → Type 0
 IsUnfitted board = (board.after.fitted ≡ false) × (board.after.console ≡ board.before.console)
 
 -- the board is booted, or memory ran out
-abbrev pub IsStarted : List ℕ → ℕ → BoardUse → Result (Unit {0}) OutOfMemory → Type 0
-IsStarted image events board (Ok _) = board.after ≡ booted_machine events image
-IsStarted image events board (Err _) = IsUnfitted board
+abbrev pub IsStarted : InputData → BoardUse → Result (List Power) OutOfMemory → Type 0
+IsStarted input board (Ok powers) =
+    (powers ≡ boot_powers input.cfg)
+    × (board.after
+    ≡ booted input.cfg (packings input.cfg) input.images (fitted_with (shape_of input.cfg (length input.events)) board.before))
+IsStarted input board (Err _) = IsUnfitted board
 
 -- all was run and the report was put out
 pub record IsFinished (input : InputData) (used : BoardUse) (sink : SinkUse) : Type 0 where

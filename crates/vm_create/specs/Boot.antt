@@ -8,6 +8,7 @@ use Rattle.board.specs.Machine.{Machine, fitted_with}
 use Rattle.mpu_packer.specs.declared.entries.Plan.{Plan}
 use Rattle.mpu_packer.specs.Packing.{Realises}
 use Rattle.mpu_packer.specs.Plan.{IsPacking}
+use Rattle.vm_model.specs.Apart.{FitRooms}
 use Rattle.vm_model.specs.Boot.{boot_bytes, boot_cores, virtual_core}
 use Rattle.vm_create.specs.Shape.{shape_of}
 
@@ -24,12 +25,6 @@ pub record IsPlanOf (cfg : ConfigData) (core : ℕ) (plan : Plan) : Type 0 where
 pub record ArePlans (cfg : ConfigData) (plans : List Plan) : Type 0 where
   pub count : length plans ≡ length cfg.platform.cores
   pub each : (core : ℕ) (plan : Plan) → slice_get plans core ≡ Some plan → IsPlanOf cfg core plan
-
--- an image for each VM, of at most its room
-pub record FitRooms (cfg : ConfigData) (images : List (List ℕ)) : Type 0 where
-  pub count : length images ≡ length cfg.vms
-  pub each : (v : ℕ) (vm : VmData) (image : List ℕ) → slice_get cfg.vms v ≡ Some vm → slice_get images v ≡ Some image
-      → length image ≤ vm.place.size
 
 -- the entries of a core that has so many: its packing, and zero entries after it
 abbrev pub filled : ℕ → List Region → List Region
