@@ -18,7 +18,7 @@ use Rattle.bao_wellformed.proofs.Places.{maps_granular, places_own}
 use Rattle.board.specs.Attempt.{is_allowed, reaches}
 use Rattle.vm_model.specs.Lone.{is_window, is_place, is_core_of, is_in_window}
 use Rattle.vm_model.specs.Agree.{IsInMap}
-use Rattle.vm_model.specs.Apart.{FitRooms, WellFormedApart, WellFormedGranular}
+use Rattle.vm_model.specs.Apart.{WellFormedApart, WellFormedGranular}
 use Rattle.vm_model.proofs.Lists.{found_got}
 use Rattle.vm_model.proofs.Own.{first_of, present_of}
 
@@ -73,8 +73,8 @@ module _ (cfg : ConfigData) (v : ℕ) (vm : VmData) (well_formed : IsWellFormed 
       let got = found_got (has_core core) cfg.vms other e in
       let differ = other_place core got.0 other stranger got.1 got.2 in
       let both =
-          maps_apart cfg v got.0 vm other at well_formed (λ same. differ (sym same)) place got.1 in_map
-          (present_of (is_within cfg.hyp at) (kind_at cfg other at) Write may) in
+      maps_apart cfg v got.0 vm other at well_formed (λ same. differ (sym same)) place got.1 in_map
+      (present_of (is_within cfg.hyp at) (kind_at cfg other at) Write may) in
       window_of (kind_at cfg vm at) both.0 both.1
 
   stores_to_windows : (core at : ℕ) → IsFalse (is_core_of cfg v core)
@@ -91,11 +91,11 @@ module _ (cfg : ConfigData) (v : ℕ) (vm : VmData) (well_formed : IsWellFormed 
   loads_elsewhere w other image at fits differ there in_map false e = refl
   loads_elsewhere w other image at fits differ there in_map true e =
       let own =
-          places_own cfg w other at well_formed there
-          (within_longer other.place.base (length image) other.place.size at fits e) in
+      places_own cfg w other at well_formed there
+      (within_longer other.place.base (length image) other.place.size at fits e) in
       let both =
-          maps_apart cfg v w vm other at well_formed (λ same. differ (sym same)) place there in_map
-          (own_present (kind_at cfg other at) own) in
+      maps_apart cfg v w vm other at well_formed (λ same. differ (sym same)) place there in_map
+      (own_present (kind_at cfg other at) own) in
       absurd (own_unshared (kind_at cfg other at) both.0 own both.2)
 
   no_port : (w : ℕ) (other : VmData) (port : ℕ) → w ≢ v → slice_get cfg.vms w ≡ Some other → IsTrue (has_port port vm)
