@@ -7,3 +7,4 @@ pub mod Run
 pub mod View
 pub mod Apart
 pub mod Granular
+pub mod WellFormed

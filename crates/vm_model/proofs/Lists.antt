@@ -50,6 +50,18 @@ first_by_place p xs v x got h =
     let element : r.element ≡ x = (let e : Some r.element ≡ Some x = sym r.got ∙ sym same ∙ got in cc) in
     (r.first ∙ ap Some element, ap p (sym element) ∙ r.passes)
 
+-- the first one that passes stands at a place
+pub found_got : (p : VmData → Bool) (xs : List VmData) (x : VmData) → find p xs ≡ Some x
+    → (place : ℕ) × (slice_get xs place ≡ Some x) × IsTrue (p x)
+found_got p [] x e = cc
+found_got p (y ∷ ys) x e = by_test (p y) refl e (found_got p ys x)
+  where
+    by_test : (b : Bool) → p y ≡ b → (if b then Some y else find p ys) ≡ Some x
+        → (find p ys ≡ Some x → (place : ℕ) × (slice_get ys place ≡ Some x) × IsTrue (p x))
+        → (place : ℕ) × (slice_get (y ∷ ys) place ≡ Some x) × IsTrue (p x)
+    by_test true t e rest = let same : y ≡ x = cc in (0, e, ap p (sym same) ∙ t)
+    by_test false t e rest = let r = rest e in (suc r.0, r.1, r.2)
+
 -- the same write to two lists that are equal at a place
 module _ {A : Type 0} (xs ys : List A) (i j : ℕ) (y d : A) (long : length xs ≡ length ys) where
   pub set_alike : get_or xs j d ≡ get_or ys j d → get_or (set xs i y) j d ≡ get_or (set ys i y) j d

@@ -25,7 +25,7 @@ abbrev pub single : ConfigData → VmData → ConfigData
 single cfg vm = record cfg { vms = vm ∷ [] }
 
 -- a byte that is reached is in the map
-present_of : (hyp : Bool) (kind : Kind) (access : Access)
+pub present_of : (hyp : Bool) (kind : Kind) (access : Access)
     → IsTrue (is_allowed (verdict_of (if hyp then Hyp else grant kind) access)) → IsTrue (is_present kind)
 present_of true kind Read h = cc
 present_of true kind Write h = cc
@@ -35,7 +35,7 @@ present_of false (Port id) access h = refl
 present_of false (Window shmem write) access h = refl
 present_of false Hole access h = cc
 
-first_of : (b c : Bool) → IsTrue (b && c) → IsTrue b
+pub first_of : (b c : Bool) → IsTrue (b && c) → IsTrue b
 first_of true c h = refl
 first_of false c h = cc
 

@@ -1,17 +1,10 @@
 -- When two flat machines are the same to a VM.
-use Rattle.std.specs.Prelude.{◌≡◌, ℕ, Bool, true, false, IsTrue, length, slice_get}
+use Rattle.std.specs.Prelude.{◌≡◌, ℕ, IsTrue, length, slice_get}
 use Rattle.bao_config.specs.Data.{ConfigData, VmData}
-use Rattle.bao_wellformed.specs.declared.map.Kind.{Kind}
-use Rattle.bao_wellformed.specs.declared.map.Kind.TheVariants.{Ram, Port, Window, Hole}
 use Rattle.bao_wellformed.specs.Map.{kind_at, has_core, has_port}
 use Rattle.board.specs.Machine.{core_at}
 use Rattle.vm_model.specs.Flat.{Flat}
-
-abbrev pub is_present : Kind → Bool
-is_present (Ram write exec) = true
-is_present (Port id) = true
-is_present (Window shmem write) = true
-is_present Hole = false
+pub use Rattle.bao_wellformed.specs.ByteRules.{is_present}
 
 -- the byte is in the VM's map
 abbrev pub IsInMap : ConfigData → VmData → ℕ → Type 0

@@ -1,9 +1,11 @@
 -- A VM among others that the configuration keeps apart from it.
-use Rattle.std.specs.Prelude.{◌≡◌, ◌≢◌, ℕ, ◌+◌, ◌%◌, ◌<◌, IsTrue, IsFalse, List, length, Some, slice_get}
+use Rattle.std.specs.Prelude.{◌≡◌, ◌≢◌, ℕ, ◌+◌, ◌%◌, ◌<◌, ◌≤◌, IsTrue, IsFalse, List, length, Some, slice_get}
 use Rattle.bao_types.specs.declared.access.Access.TheVariants.{Write}
 use Rattle.bao_types.specs.ByteRange.{is_within}
 use Rattle.bao_config.specs.Data.{ConfigData, VmData}
+use Rattle.bao_config.specs.Fits.{ConfigFits}
 use Rattle.bao_wellformed.specs.Map.{is_platform_port, kind_at, has_core, has_port, by_map}
+use Rattle.bao_wellformed.specs.WellFormed.{IsWellFormed}
 use Rattle.board.specs.Attempt.{reaches}
 use Rattle.vm_model.specs.Lone.{is_core_of, is_in_window}
 use Rattle.vm_model.specs.Agree.{IsInMap}
@@ -25,3 +27,19 @@ pub record IsApart (cfg : ConfigData) (images : List (List ℕ)) (v : ℕ) (vm :
 -- each 16 bytes from a multiple of 16 on are of one kind to the VM, as all ranges of a configuration are multiples of 64
 abbrev pub IsGranular : ConfigData → VmData → Type 0
 IsGranular cfg vm = (at k : ℕ) → at % 16 ≡ 0 → k < 16 → kind_at cfg vm (at + k) ≡ kind_at cfg vm at
+
+-- an image for each VM, of at most its room
+pub record FitRooms (cfg : ConfigData) (images : List (List ℕ)) : Type 0 where
+  pub count : length images ≡ length cfg.vms
+  pub each : (v : ℕ) (vm : VmData) (image : List ℕ) → slice_get cfg.vms v ≡ Some vm → slice_get images v ≡ Some image
+      → length image ≤ vm.place.size
+
+-- the rules of a configuration keep each of its VMs apart from the others, whatever the images are, if each fits its place
+abbrev pub WellFormedApart : Type 0
+WellFormedApart =
+    (cfg : ConfigData) (images : List (List ℕ)) (v : ℕ) (vm : VmData) → IsWellFormed cfg → ConfigFits cfg → FitRooms cfg images
+    → slice_get cfg.vms v ≡ Some vm → IsApart cfg images v vm
+
+-- the key table alone makes the map of each VM granular
+abbrev pub WellFormedGranular : Type 0
+WellFormedGranular = (cfg : ConfigData) (v : ℕ) (vm : VmData) → ConfigFits cfg → slice_get cfg.vms v ≡ Some vm → IsGranular cfg vm

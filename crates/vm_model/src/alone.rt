@@ -1,4 +1,5 @@
 ghost use Rattle.vm_model.specs.Alone.{OwnStepsAgree, OtherStepsAgree, RunsAsIfAlone, SeesItsOwn};
+ghost use Rattle.vm_model.specs.Apart.{WellFormedApart, WellFormedGranular};
 
 /// A step of a core of a VM does the same to it in the whole machine and alone on it. The function does nothing; its
 /// contract is the law.
@@ -24,4 +25,12 @@ pub fn a_view_has_nothing_else()
 /// windows. The function does nothing; its contract is the law.
 pub fn a_vm_runs_as_if_alone()
     ensures { RunsAsIfAlone }
+{}
+
+/// A configuration that keeps the rules and the key table keeps each of its VMs apart from the others, with every image that
+/// fits its place, and each 16 bytes of a map are of one kind. So the laws of this crate speak of every VM of such a
+/// configuration. The function does nothing; its contract is the law.
+pub fn a_well_formed_configuration_keeps_its_vms_apart()
+    ensures apart { WellFormedApart }
+    ensures granular { WellFormedGranular }
 {}
