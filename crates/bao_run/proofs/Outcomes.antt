@@ -1,18 +1,20 @@
 -- From what the parts of a call answer to what its status means.
-use Rattle.std.proofs.Common.{◌≡◌, ℕ, zero, suc, ◌≤◌, List, [], ◌∷◌, length, refl, ap, subst, ◌∙◌, false}
-use Rattle.std.specs.Prelude.{Option, None, Some, slice_get}
+use Rattle.std.proofs.Common.{◌≡◌, ℕ, List, refl, ap, ◌∙◌, inl, inr, false, absurd}
+use Rattle.std.specs.Prelude.{None, Some, ⊤}
+use Rattle.bao_config.specs.Fits.{ConfigFits}
+use Rattle.bao_wellformed.specs.WellFormed.{IsWellFormed}
+use Rattle.bao_wellformed.specs.Checked.{checked_data}
 use Rattle.report.specs.declared.status.Part.TheVariants as part
 use Rattle.report.specs.declared.status.Status.{Status}
 use Rattle.report.specs.declared.status.Status.TheVariants as status
 use Rattle.report.specs.Status.{refusal_text}
-use Rattle.bao_run.specs.Words.{Command, Run, Unbuilt, Unknown, command_of}
-use Rattle.bao_config.specs.Data.{VmData}
-use Rattle.report.specs.Sample.{sample}
+use Rattle.bao_run.specs.Words.{Command, Run, Check, Unbuilt, Unknown, Reads, IsRun, IsCheck, command_of}
 use Rattle.bao_run.specs.Call.{Files, Call, IsFaultless, IsPut}
-use Rattle.bao_run.specs.Ruling.{Ruling, Refused, Accept, ruling, rule_command, rule_config}
-use Rattle.bao_run.specs.Input.{IfHeld, IsReached, IsRefused, IsInput, input_data}
-use Rattle.bao_run.specs.Play.{IsPlayed}
-use Rattle.bao_run.specs.Outcome.{Outcome, IsAccepted}
+use Rattle.bao_run.specs.Ruling.{Ruling, Refused, rule_command}
+use Rattle.bao_run.specs.Input.{IfHeld, IsRefused, IsRuledBy, IsInput, IsShown, input_data}
+use Rattle.bao_run.specs.Play.{IsPlayed, IsShowing}
+use Rattle.bao_run.specs.Outcome.{Outcome, IsAccepted, IsRuled}
+use Rattle.bao_run.specs.declared.config.Packed.{Packed}
 use Rattle.bao_run.specs.declared.input.Input.{Input}
 
 -- a fact on all files
@@ -20,137 +22,114 @@ every : (held : Option Files) (P : Files → Type 0) → ((files : Files) → P 
 every None P all = tt
 every (Some files) P all = all files
 
--- a fact on the files that follows from another
-follows : (held : Option Files) (P Q : Files → Type 0) → ((files : Files) → P files → Q files) → IfHeld held P → IfHeld held Q
-follows None P Q step h = tt
-follows (Some files) P Q step h = step files h
-
--- the room of a VM, if there is one
-abbrev size_of : Option VmData → ℕ
-size_of None = 0
-size_of (Some vm) = vm.place.size
-
--- what the command rules
-ruling_by : (words : List (List ℕ)) (files : Files) (command : Command) → command_of words ≡ command
-    → ruling words files ≡ rule_command files command
-unfolding ruling
-ruling_by words files command same = ap (rule_command files) same
-
 module _ (call : Call) (board : call.board.after ≡ call.board.before) where
+  -- what the contents rule, with its line
+  ruled : (decided : Status) → IsRuledBy call.shelf (command_of call.words) (Refused decided) → IsPut call.sink (refusal_text decided)
+      → IsRuled call decided
+  ruled decided h line = record { told = h.0; read = h.1; refused = record { board = board; line = line } }
+
+  by_words : (command : Command) (decided : Status) → command_of call.words ≡ command
+      → ((files : Files) → rule_command files command ≡ Refused decided) → IsFaultless call.shelf → IsPut call.sink (refusal_text decided)
+      → IsRuled call decided
+  by_words command decided is rules read line =
+      ruled decided (
+        every call.shelf.held (λ files. rule_command files (command_of call.words) ≡ Refused decided)
+        (λ files. ap (rule_command files) is ∙ rules files),
+        read,
+      ) line
+
   -- words that ask for what isn't built
   pub unbuilt_words : command_of call.words ≡ Unbuilt → IsFaultless call.shelf
       → IsPut call.sink (refusal_text (status.NotBuilt part.Words)) → Outcome call (status.NotBuilt part.Words)
-  unbuilt_words command read line = (
-    command,
-    record {
-      told = every call.shelf.held (λ files. ruling call.words files ≡ Refused (status.NotBuilt part.Words))
-          (λ files. ruling_by call.words files Unbuilt command);
-      read = read;
-      refused = record { board = board; line = line };
-    },
-  )
+  unbuilt_words command read line = (command, by_words Unbuilt (status.NotBuilt part.Words) command (λ files. refl) read line)
 
   -- words that ask for nothing
   pub unknown_words : command_of call.words ≡ Unknown → IsFaultless call.shelf
       → IsPut call.sink (refusal_text status.Usage) → Outcome call status.Usage
-  unknown_words command read line = (
-    command,
-    record {
-      told = every call.shelf.held (λ files. ruling call.words files ≡ Refused status.Usage)
-          (λ files. ruling_by call.words files Unknown command);
-      read = read;
-      refused = record { board = board; line = line };
-    },
-  )
-
-module _ (call : Call) (config schedule : List ℕ) (command : command_of call.words ≡ Run config schedule) where
-  abbrev rule : Files → Ruling
-  rule files = rule_config files schedule (files config)
-
-  ruled : (decided : Ruling) → IfHeld call.shelf.held (λ files. rule files ≡ decided)
-      → IfHeld call.shelf.held (λ files. ruling call.words files ≡ decided)
-  ruled decided h =
-      follows call.shelf.held (λ files. rule files ≡ decided) (λ files. ruling call.words files ≡ decided)
-      (λ files e. ruling_by call.words files (Run config schedule) command ∙ e) h
+  unknown_words command read line = (command, by_words Unknown status.Usage command (λ files. refl) read line)
 
   -- a refusal while the files were read
-  pub refused_input : (decided : Status) → call.board.before.fitted ≡ false → call.board.after ≡ call.board.before
-      → IsRefused call.shelf config schedule decided
-      → IsPut call.sink (refusal_text decided) → Outcome call decided
-  refused_input status.Done unfitted board h line = absurd h
-  refused_input status.Usage unfitted board h line = absurd h
-  refused_input (status.ReadFault file) unfitted board h line = record {
-    config = config;
-    schedule = schedule;
-    run = command;
-    is_file = h.0;
-    first = h.1;
-    told = follows call.shelf.held (λ files. IsReached sample (rule files) file) (λ files. IsReached sample (ruling call.words files) file)
-        (λ files e. rw (ruling_by call.words files (Run config schedule) command) e) h.2;
-    failed = h.3;
-    refused = record { board = board; line = line };
-  }
-  refused_input (status.TooLong file limit) unfitted board h line = (
-    (config, (schedule, command)),
-    record { told = ruled (Refused (status.TooLong file limit)) h.0; read = h.1; refused = record { board = board; line = line } },
-  )
-  refused_input status.BadToml unfitted board h line = absurd h
-  refused_input (status.IllConfig why) unfitted board h line = absurd h
-  refused_input (status.TooMany core runs entries) unfitted board h line = absurd h
-  refused_input status.WriteFault unfitted board h line = absurd h
-  refused_input status.OutOfMemory unfitted board h line = record {
-    run = (config, (schedule, command));
+  pub refused_input : (decided : Status) → Reads (command_of call.words) → call.board.before.fitted ≡ false
+      → IsRefused call.shelf (command_of call.words) decided → IsPut call.sink (refusal_text decided) → Outcome call decided
+  refused_input status.Done reads unfitted h line = absurd h
+  refused_input status.Usage reads unfitted h line = absurd h
+  refused_input (status.ReadFault file) reads unfitted h line = record { fault = h; refused = record { board = board; line = line } }
+  refused_input (status.TooLong file limit) reads unfitted h line = (reads, ruled (status.TooLong file limit) h line)
+  refused_input status.BadToml reads unfitted h line = (reads, ruled status.BadToml h line)
+  refused_input (status.IllConfig why) reads unfitted h line = (reads, ruled (status.IllConfig why) h line)
+  refused_input (status.TooMany core runs entries) reads unfitted h line = (reads, ruled (status.TooMany core runs entries) h line)
+  refused_input status.WriteFault reads unfitted h line = absurd h
+  refused_input status.OutOfMemory reads unfitted h line = record {
+    reads = reads;
     read = h;
     unfitted = (ap (λ m. m.fitted) board ∙ unfitted, ap (λ m. m.console) board);
     line = line;
   }
-  refused_input status.ManyVms unfitted board h line = absurd h
-  refused_input (status.NotBuilt part.Words) unfitted board h line = absurd h.1
-  refused_input (status.NotBuilt part.Config) unfitted board h line = (
-    (config, (schedule, command)),
-    record { told = ruled (Refused (status.NotBuilt part.Config)) h.0; read = h.2; refused = record { board = board; line = line } },
-  )
-  refused_input (status.NotBuilt part.Schedule) unfitted board h line = (
-    (config, (schedule, command)),
-    record { told = ruled (Refused (status.NotBuilt part.Schedule)) h.0; read = h.2; refused = record { board = board; line = line } },
-  )
-  refused_input (status.NotBuilt (part.Event number)) unfitted board h line = absurd h.1
+  refused_input status.ManyVms reads unfitted h line = (h.0, ruled status.ManyVms h.1 line)
+  refused_input (status.NotBuilt part.Words) reads unfitted h line = absurd h
+  refused_input (status.NotBuilt part.Config) reads unfitted h line = (h.0, ruled (status.NotBuilt part.Config) h.1 line)
+  refused_input (status.NotBuilt part.Schedule) reads unfitted h line = (h.0, ruled (status.NotBuilt part.Schedule) h.1 line)
+  refused_input (status.NotBuilt (part.Event number)) reads unfitted h line = absurd h
 
-  module _ (input : Input) (read : IsInput call.shelf config schedule input) where
-    fit : (v : ℕ) (vm : VmData) (image : List ℕ) → slice_get sample.vms v ≡ Some vm
-        → slice_get (input.image.items ∷ []) v ≡ Some image → length image ≤ vm.place.size
-    fit zero vm image given got =
-        let place : 0x8000 ≡ vm.place.size = ap size_of given in
-        let same : input.image.items ≡ image = cc in
-        subst (λ n. length image ≤ n) place (subst (λ i. length i ≤ 0x8000) same read.playable.image)
-    fit (suc v) vm image given got = cc
+  -- a packing, as far as it was put out
+  pub shown : (packed : Packed) → IsCheck (command_of call.words) → IsShown call.shelf (command_of call.words) packed
+      → (decided : Status) → IsShowing (checked_data packed.checked) call.sink decided → Outcome call decided
+  shown packed check h status.Done text = inr (record {
+    check = check;
+    cfg = checked_data packed.checked;
+    well_formed = packed.checked.well_formed;
+    told = h.told.0;
+    read = h.told.1;
+    board = board;
+    text = text;
+  })
+  shown packed check h status.Usage text = absurd text
+  shown packed check h (status.ReadFault file) text = absurd text
+  shown packed check h (status.TooLong file limit) text = absurd text
+  shown packed check h status.BadToml text = absurd text
+  shown packed check h (status.IllConfig why) text = absurd text
+  shown packed check h (status.TooMany core runs entries) text = absurd text
+  shown packed check h status.WriteFault text = inr (record {
+    check = check;
+    cfg = checked_data packed.checked;
+    well_formed = packed.checked.well_formed;
+    told = h.told.0;
+    read = h.told.1;
+    board = board;
+    text = text;
+  })
+  shown packed check h status.OutOfMemory text = absurd text
+  shown packed check h status.ManyVms text = absurd text
+  shown packed check h (status.NotBuilt part) text = absurd text
 
-    accepted : IsAccepted call (input_data input)
-    accepted = record {
-      run = (config, (schedule, command));
-      runnable = record { config = refl; count = refl; fit = fit; spelled = read.spelled };
-      told = ruled (Accept (input_data input)) read.told;
-      read = read.faultless;
-    }
+module _ (call : Call) (input : Input) (run : IsRun (command_of call.words)) (reads : Reads (command_of call.words))
+    (h : IsInput call.shelf (command_of call.words) input) where
+  accepted : IsAccepted call (input_data input)
+  accepted = record {
+    run = run;
+    runnable = record {
+      well_formed = input.packed.checked.well_formed;
+      fits = input.packed.checked.config.fits;
+      rooms = h.playable.rooms;
+      spelled = h.spelled;
+    };
+    told = h.told.0;
+    read = h.told.1;
+  }
 
-    -- a run, as far as it came
-    pub played : (decided : Status) → IsPlayed (input_data input) call.board call.sink decided → Outcome call decided
-    played status.Done h = (input_data input, record { accepted = accepted; played = h })
-    played status.Usage h = absurd h
-    played (status.ReadFault file) h = absurd h
-    played (status.TooLong file limit) h = absurd h
-    played status.BadToml h = absurd h
-    played (status.IllConfig why) h = absurd h
-    played (status.TooMany core runs entries) h = absurd h
-    played status.WriteFault h = (input_data input, record { accepted = accepted; played = h })
-    played status.OutOfMemory h = record {
-      run = (config, (schedule, command));
-      read = read.faultless;
-      unfitted = h.unfitted;
-      line = h.line;
-    }
-    played status.ManyVms h = absurd h
-    played (status.NotBuilt part.Words) h = absurd h
-    played (status.NotBuilt part.Config) h = absurd h
-    played (status.NotBuilt part.Schedule) h = absurd h
-    played (status.NotBuilt (part.Event number)) h = (input_data input, record { accepted = accepted; played = h })
+  -- a run, as far as it came
+  pub played : (decided : Status) → IsPlayed (input_data input) call.board call.sink decided → Outcome call decided
+  played status.Done p = inl (input_data input, record { accepted = accepted; played = p })
+  played status.Usage p = absurd p
+  played (status.ReadFault file) p = absurd p
+  played (status.TooLong file limit) p = absurd p
+  played status.BadToml p = absurd p
+  played (status.IllConfig why) p = absurd p
+  played (status.TooMany core runs entries) p = absurd p
+  played status.WriteFault p = inl (input_data input, record { accepted = accepted; played = p })
+  played status.OutOfMemory p = record { reads = reads; read = h.told.1; unfitted = p.unfitted; line = p.line }
+  played status.ManyVms p = absurd p
+  played (status.NotBuilt part.Words) p = absurd p
+  played (status.NotBuilt part.Config) p = absurd p
+  played (status.NotBuilt part.Schedule) p = absurd p
+  played (status.NotBuilt (part.Event number)) p = (input_data input, record { accepted = accepted; played = p })

@@ -7,7 +7,7 @@ use Rattle.bao_run.specs.SureAnswers.{IsSurelyComplete}
 
 pub surely : (call : Call) (answer : Status) → call.shelf.before.faults ≡ 0 → call.shelf.after.faults ≡ 0 → Answers call answer
     → IsSurelyComplete call answer
-surely call answer before after answers files input held accepts low same =
+surely call answer before after answers files held low same =
     let few : call.shelf.before.faults < last_count = omega arith in
-    let well : IsReadWell call = inl (after ∙ sym before) in
-    answers.complete files input held accepts few well low same
+    let well : IsReadWell call files = inl (after ∙ sym before) in
+    answers.complete files held few well low same

@@ -1,14 +1,12 @@
--- The contract of the top call: what its answer means, that the VMs are isolated, and when it must succeed.
-use Rattle.std.specs.Prelude.{◌≡◌, ◌≢◌, ℕ, ◌-◌, ◌^◌, ◌<◌, ◌⊎◌, List, Option, None, Some}
-use Rattle.report.specs.declared.status.FileId.{FileId}
+-- The contract of the top call: what its answer means, that the VMs are isolated, and what the answer must be.
+use Rattle.std.specs.Prelude.{◌≡◌, ℕ, ◌-◌, ◌^◌, ◌<◌, ◌⊎◌, Option, None, Some}
 use Rattle.report.specs.declared.status.Part.TheVariants as part
 use Rattle.report.specs.declared.status.Status.{Status}
 use Rattle.report.specs.declared.status.Status.TheVariants as status
-use Rattle.report.specs.Sample.{sample}
-use Rattle.bao_run.specs.Words.{Run, command_of}
-use Rattle.bao_run.specs.Call.{Files, InputData, Call, IsFaultless}
-use Rattle.bao_run.specs.Ruling.{Accept, ruling}
-use Rattle.bao_run.specs.Input.{IsFileOf, name_of}
+use Rattle.bao_run.specs.Words.{IsRun, command_of}
+use Rattle.bao_run.specs.Call.{Files, Call, IsFaultless}
+use Rattle.bao_run.specs.Ruling.{Ruling, Refused, Missing, Shown, Accept, ruling}
+use Rattle.bao_run.specs.Input.{lacking}
 use Rattle.bao_run.specs.Play.{first_halt}
 use Rattle.bao_run.specs.Outcome.{Outcome, IsIsolated, ForSomeInput}
 
@@ -16,27 +14,32 @@ use Rattle.bao_run.specs.Outcome.{Outcome, IsIsolated, ForSomeInput}
 abbrev pub last_count : ℕ
 last_count = 2 ^ 64 - 1
 
--- the shelf's faults didn't rise, or the last one was at the name of no file that the words name
-abbrev pub IsReadWell : Call → Type 0
-IsReadWell call =
-    IsFaultless call.shelf
-    ⊎ ((config schedule : List ℕ) (file : FileId) → command_of call.words ≡ Run config schedule → IsFileOf sample file
-    → call.shelf.after.culprit ≢ name_of sample config schedule file)
+-- the shelf's faults didn't rise, or the last one was at a name that doesn't matter: the contents would rule the same without it
+abbrev pub IsReadWell : Call → Files → Type 0
+IsReadWell call files =
+    IsFaultless call.shelf ⊎ (ruling call.words (lacking call.shelf.after.culprit files) ≡ ruling call.words files)
 
--- the answer of a run whose first event that isn't built is this one, if there is one: want of memory aside it is determined
-abbrev pub IsDue : Option ℕ → Status → Type 0
-IsDue None answer = (answer ≡ status.Done) ⊎ (answer ≡ status.OutOfMemory)
-IsDue (Some number) answer = (answer ≡ status.NotBuilt (part.Event number)) ⊎ (answer ≡ status.OutOfMemory)
+-- a run whose first event that isn't built is this one, if there is one
+abbrev pub status_after : Option ℕ → Status
+status_after None = status.Done
+status_after (Some number) = status.NotBuilt (part.Event number)
 
--- where the told contents are accepted and nothing outside fails, the call succeeds, want of memory aside
+-- what the contents rule decides the answer
+abbrev pub status_by : Ruling → Status
+status_by (Refused status) = status
+status_by (Missing file) = status.ReadFault file
+status_by (Shown cfg) = status.Done
+status_by (Accept input) = status_after (first_halt input)
+
+-- where the contents are told and nothing outside fails, the answer is what they rule, want of memory aside
 abbrev pub IsComplete : Call → Status → Type 0
 IsComplete call answer =
-    (files : Files) (input : InputData) → call.shelf.held ≡ Some files → ruling call.words files ≡ Accept input
-    → call.shelf.before.faults < last_count → IsReadWell call
+    (files : Files) → call.shelf.held ≡ Some files
+    → call.shelf.before.faults < last_count → IsReadWell call files
     → call.sink.faults_before < last_count → call.sink.faults_after ≡ call.sink.faults_before
-    → IsDue (first_halt input) answer
+    → (answer ≡ status_by (ruling call.words files)) ⊎ (answer ≡ status.OutOfMemory)
 
 pub record Answers (call : Call) (answer : Status) : Type 0 where
   pub outcome : Outcome call answer
-  pub isolated : answer ≡ status.Done → ForSomeInput (IsIsolated call)
+  pub isolated : answer ≡ status.Done → IsRun (command_of call.words) → ForSomeInput (IsIsolated call)
   pub complete : IsComplete call answer

@@ -1,7 +1,6 @@
 -- What reading the files of a command answers.
-use Rattle.std.specs.Prelude.{◌≡◌, ◌<◌, ◌≤◌, ℕ, List, [], ◌∷◌, ◌++◌, All, Vec, Option, Some, None, Result, Ok, Err, IsSomeAnd, if◌then◌else◌, length, map, find, ⊤, ⊥}
+use Rattle.std.specs.Prelude.{◌≡◌, ◌<◌, ◌≤◌, ◌+◌, ℕ, List, [], ◌∷◌, ◌++◌, All, Vec, Option, Some, None, Result, Ok, Err, IsSomeAnd, if◌then◌else◌, length, map, find, ⊤, ⊥}
 use Rattle.std.specs.declared.alloc.Global.{Global}
-use Rattle.std.specs.List.{enumerate_from}
 use Rattle.std.specs.Option.{option_map}
 use Rattle.bao_types.specs.Shape.{event_limit}
 use Rattle.outside.specs.Shelf.{IfTold}
@@ -15,7 +14,7 @@ use Rattle.report.specs.declared.status.Status.{Status}
 use Rattle.report.specs.declared.status.Status.TheVariants as status
 use Rattle.vm_model.specs.Apart.{FitRooms}
 use Rattle.vm_create.specs.Boot.{ArePlans}
-use Rattle.bao_run.specs.Words.{Command, Run, Check, Unbuilt, Unknown, same}
+use Rattle.bao_run.specs.Words.{Command, Run, Check, Unbuilt, Unknown, IsRun, same}
 use Rattle.bao_run.specs.Call.{InputData, Files, ShelfUse, IsFaultless, HasFailed}
 use Rattle.bao_run.specs.Ruling.{Ruling, Refused, Missing, Shown, Accept, rule_command}
 use Rattle.bao_run.specs.Schedule.{schedule_of, flat_event, IsOfCoreZero}
@@ -33,7 +32,8 @@ Named = FileId × List ℕ
 
 -- the images of the VMs from place v on
 abbrev pub image_names : ℕ → List VmData → List Named
-image_names v vms = map (λ place. (file.Image place.0, place.1.image)) (enumerate_from v vms)
+image_names v [] = []
+image_names v (vm ∷ vms) = (file.Image v, vm.image) ∷ image_names (v + 1) vms
 
 -- the files of a command over a configuration, in the order in which they are read
 abbrev pub files_of : Command → ConfigData → List Named
@@ -75,10 +75,13 @@ IsRefused shelf command (status.IllConfig why) = IsRuledBy shelf command (Refuse
 IsRefused shelf command (status.TooMany core runs entries) = IsRuledBy shelf command (Refused (status.TooMany core runs entries))
 IsRefused shelf command status.WriteFault = ⊥
 IsRefused shelf command status.OutOfMemory = IsFaultless shelf
-IsRefused shelf command status.ManyVms = IsRuledBy shelf command (Refused status.ManyVms)
+IsRefused shelf command status.ManyVms =
+    IsRun command × IsRuledBy shelf command (Refused status.ManyVms)
 IsRefused shelf command (status.NotBuilt part.Words) = ⊥
-IsRefused shelf command (status.NotBuilt part.Config) = IsRuledBy shelf command (Refused (status.NotBuilt part.Config))
-IsRefused shelf command (status.NotBuilt part.Schedule) = IsRuledBy shelf command (Refused (status.NotBuilt part.Schedule))
+IsRefused shelf command (status.NotBuilt part.Config) =
+    IsRun command × IsRuledBy shelf command (Refused (status.NotBuilt part.Config))
+IsRefused shelf command (status.NotBuilt part.Schedule) =
+    IsRun command × IsRuledBy shelf command (Refused (status.NotBuilt part.Schedule))
 IsRefused shelf command (status.NotBuilt (part.Event number)) = ⊥
 
 -- what an `Input` is made of

@@ -1,41 +1,26 @@
 -- What each answer of the top call means.
-use Rattle.std.specs.Prelude.{◌≡◌, ℕ, ◌+◌, List, [], ◌∷◌, ◌++◌, ◌≤◌, Some, length, slice_get}
-use Rattle.bao_config.specs.Data.{VmData}
+use Rattle.std.specs.Prelude.{◌≡◌, ℕ, ◌+◌, ◌⊎◌, List, [], ◌∷◌, ◌++◌, Some, ⊥}
+use Rattle.bao_config.specs.Data.{ConfigData, VmData}
+use Rattle.bao_config.specs.Fits.{ConfigFits}
+use Rattle.bao_wellformed.specs.WellFormed.{IsWellFormed}
 use Rattle.report.specs.declared.status.FileId.{FileId}
 use Rattle.report.specs.declared.status.Part.TheVariants as part
 use Rattle.report.specs.declared.status.Status.{Status}
 use Rattle.report.specs.declared.status.Status.TheVariants as status
 use Rattle.report.specs.Lines.{done_line}
-use Rattle.report.specs.Sample.{sample}
+use Rattle.report.specs.Packing.{packing_text}
 use Rattle.report.specs.Section.{section}
 use Rattle.report.specs.Status.{refusal_text}
 use Rattle.outside.specs.Sink.{grown}
+use Rattle.vm_model.specs.Apart.{FitRooms}
 use Rattle.vm_model.specs.Lone.{only, lone}
-use Rattle.bao_run.specs.Words.{Run, Unbuilt, Unknown, command_of}
-use Rattle.bao_run.specs.Call.{InputData, Call, IsFaultless, HasFailed, IsPut}
-use Rattle.bao_run.specs.Ruling.{Refused, Accept, ruling}
-use Rattle.bao_run.specs.Input.{IfHeld, IsFileOf, IsFirstOfName, IsReached, name_of}
+use Rattle.bao_run.specs.Words.{Reads, IsRun, IsCheck, Unbuilt, Unknown, command_of}
+use Rattle.bao_run.specs.Call.{InputData, SinkUse, Call, IsFaultless, IsTaken, IsCut, IsPut}
+use Rattle.bao_run.specs.Ruling.{Refused, Shown, Accept, ruling}
+use Rattle.bao_run.specs.Input.{IfHeld, IsFaultAt}
+use Rattle.bao_run.specs.Packed.{packings}
 use Rattle.bao_run.specs.Schedule.{schedule_of}
 use Rattle.bao_run.specs.Play.{IsUnfitted, IsPlayed}
-
--- the words ask for a command that reads files
-abbrev pub Reads : Command → Type 0
-Reads (Run config schedule) = ⊤
-Reads (Check config) = ⊤
-Reads Unbuilt = ⊥
-Reads Unknown = ⊥
-
-abbrev pub IsRun : Command → Type 0
-IsRun (Run config schedule) = ⊤
-IsRun (Check config) = ⊥
-IsRun Unbuilt = ⊥
-IsRun Unknown = ⊥
-
-abbrev pub IsCheck : Command → Type 0
-IsCheck (Run config schedule) = ⊥
-IsCheck (Check config) = ⊤
-IsCheck Unbuilt = ⊥
-IsCheck Unknown = ⊥
 
 -- what a run can be made of: a well-formed configuration whose cores all have a packing, an image for each of its VMs, each of at
 -- most its room, and events that a schedule spells

@@ -1,18 +1,18 @@
 -- What the parts of a run answer, between the reading of the files and the report.
-use Rattle.std.specs.Prelude.{◌≡◌, ℕ, true, false, List, Result, Ok, Err, Option, None, Some, length}
-use Rattle.bao_types.specs.declared.memory.OutOfMemory.{OutOfMemory}
+use Rattle.std.specs.Prelude.{◌≡◌, ℕ, true, false, Option, None, Some, length, ⊥}
 use Rattle.report.specs.declared.status.Part.TheVariants as part
 use Rattle.report.specs.declared.status.Status.{Status}
 use Rattle.report.specs.declared.status.Status.TheVariants as status
+use Rattle.bao_config.specs.Data.{ConfigData}
+use Rattle.report.specs.Packing.{packing_text}
 use Rattle.report.specs.Section.{report}
 use Rattle.report.specs.Status.{refusal_text}
-use Rattle.board.specs.Machine.{Machine, fitted_with}
+use Rattle.board.specs.Machine.{Machine}
 use Rattle.vm_model.specs.Flat.{Flat, flat_run, entered_count, first_unbuilt}
-use Rattle.vm_model.specs.declared.power.Power.{Power}
-use Rattle.vm_model.specs.Boot.{boot, boot_powers}
+use Rattle.vm_model.specs.Boot.{boot}
 use Rattle.vm_model.specs.Project.{project}
 use Rattle.bao_run.specs.Call.{InputData, SinkUse, BoardUse, IsTaken, IsCut, IsPut}
-use Rattle.vm_create.specs.Boot.{all_filled, booted}
+use Rattle.vm_create.specs.Boot.{all_filled}
 use Rattle.vm_create.specs.Shape.{shape_of}
 use Rattle.bao_run.specs.Packed.{ArePacked, packings}
 
@@ -43,14 +43,6 @@ pub record IsRunThrough (m : Machine) (input : InputData) : Type 0 where
 abbrev pub IsUnfitted : BoardUse → Type 0
 IsUnfitted board = (board.after.fitted ≡ false) × (board.after.console ≡ board.before.console)
 
--- the board is booted, or memory ran out
-abbrev pub IsStarted : InputData → BoardUse → Result (List Power) OutOfMemory → Type 0
-IsStarted input board (Ok powers) =
-    (powers ≡ boot_powers input.cfg)
-    × (board.after
-    ≡ booted input.cfg (packings input.cfg) input.images (fitted_with (shape_of input.cfg (length input.events)) board.before))
-IsStarted input board (Err _) = IsUnfitted board
-
 -- all was run and the report was put out
 pub record IsFinished (input : InputData) (used : BoardUse) (sink : SinkUse) : Type 0 where
   pub board : IsRunThrough used.after input
@@ -71,6 +63,20 @@ pub record IsHalted (number : ℕ) (input : InputData) (board : BoardUse) (sink 
 pub record IsStarved (board : BoardUse) (sink : SinkUse) : Type 0 where
   pub unfitted : IsUnfitted board
   pub line : IsPut sink (refusal_text status.OutOfMemory)
+
+-- by the status of a check: the packing was put out, whole or cut short
+abbrev pub IsShowing : ConfigData → SinkUse → Status → Type 0
+IsShowing cfg sink status.Done = IsTaken sink (packing_text cfg (packings cfg))
+IsShowing cfg sink status.Usage = ⊥
+IsShowing cfg sink (status.ReadFault file) = ⊥
+IsShowing cfg sink (status.TooLong file limit) = ⊥
+IsShowing cfg sink status.BadToml = ⊥
+IsShowing cfg sink (status.IllConfig why) = ⊥
+IsShowing cfg sink (status.TooMany core runs entries) = ⊥
+IsShowing cfg sink status.WriteFault = IsCut sink (packing_text cfg (packings cfg))
+IsShowing cfg sink status.OutOfMemory = ⊥
+IsShowing cfg sink status.ManyVms = ⊥
+IsShowing cfg sink (status.NotBuilt part) = ⊥
 
 -- by the status of a run: what it left of the board and the sink
 abbrev pub IsPlayed : InputData → BoardUse → SinkUse → Status → Type 0

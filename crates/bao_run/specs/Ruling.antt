@@ -121,5 +121,5 @@ rule_command files (Check config) = rule_config rule_check (files config)
 rule_command files Unbuilt = not_built part.Words
 rule_command files Unknown = Refused status.Usage
 
-unfoldable pub ruling : List (List ℕ) → Files → Ruling
+abbrev pub ruling : List (List ℕ) → Files → Ruling
 ruling words files = rule_command files (command_of words)

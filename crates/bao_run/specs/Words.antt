@@ -1,5 +1,5 @@
 -- The words of the command line.
-use Rattle.std.specs.Prelude.{ℕ, ◌+◌, ◌-◌, ◌*◌, ◌^◌, ◌==◌, ◌&&◌, nat_lt, not, Bool, true, false, if◌then◌else◌, List, [], ◌∷◌, codes, fold}
+use Rattle.std.specs.Prelude.{ℕ, ◌+◌, ◌-◌, ◌*◌, ◌^◌, ◌==◌, ◌&&◌, nat_lt, not, Bool, true, false, if◌then◌else◌, List, [], ◌∷◌, codes, fold, ⊤, ⊥}
 use Rattle.std.specs.Cmp.Lexicographic.{pointwise}
 use Rattle.std.specs.List.{list_all}
 use Rattle.std.specs.Char.{is_ascii_digit}
@@ -10,6 +10,25 @@ pub data Command : Type 0 where
   Check : (config : List ℕ) → Command
   Unbuilt : Command
   Unknown : Command
+
+-- the command reads files; it is a run; it is a check
+abbrev pub Reads : Command → Type 0
+Reads (Run config schedule) = ⊤
+Reads (Check config) = ⊤
+Reads Unbuilt = ⊥
+Reads Unknown = ⊥
+
+abbrev pub IsRun : Command → Type 0
+IsRun (Run config schedule) = ⊤
+IsRun (Check config) = ⊥
+IsRun Unbuilt = ⊥
+IsRun Unknown = ⊥
+
+abbrev pub IsCheck : Command → Type 0
+IsCheck (Run config schedule) = ⊥
+IsCheck (Check config) = ⊤
+IsCheck Unbuilt = ⊥
+IsCheck Unknown = ⊥
 
 -- two texts are the same
 abbrev pub same : List ℕ → List ℕ → Bool

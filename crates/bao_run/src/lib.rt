@@ -3,6 +3,8 @@
 #![tactic(auto)]
 
 mod config;
+mod fetch;
+mod images;
 mod input;
 mod machine;
 mod packing;
@@ -13,7 +15,6 @@ mod sure;
 mod top;
 mod words;
 
-pub use config::the_sample_text_spells_the_sample;
-pub use packing::{a_core_steps_as_in_the_model, the_packing_realises_the_map};
+pub use packing::a_core_steps_as_in_the_model;
 pub use sure::complete_over_a_sure_shelf;
 pub use top::run_bao;

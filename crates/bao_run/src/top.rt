@@ -1,20 +1,29 @@
-ghost use Rattle.std.specs.Prelude.{◌≡◌, [], map, string_bytes, length, IsTrue, false};
+ghost use Rattle.std.specs.Prelude.{◌≡◌, [], map, string_bytes, length, IsTrue, false, IfOk, OnOk, OnErr};
+ghost use Rattle.bao_wellformed.specs.Checked.{checked_data};
+ghost use Rattle.board.specs.Machine.{fitted_with};
 ghost use Rattle.report.specs.Status.{is_refusal, refusal_text};
+ghost use Rattle.vm_create.specs.Boot.{ArePlans, booted};
+ghost use Rattle.vm_create.specs.Shape.{shape_of};
+ghost use Rattle.vm_model.specs.Boot.{boot_powers};
 ghost use Rattle.bao_run.specs.Call.{IsPut};
 ghost use Rattle.bao_run.specs.Input.{CanPlay, input_data};
-ghost use Rattle.bao_run.specs.Play.{IsStarted, IsPlayed};
+ghost use Rattle.bao_run.specs.Packed.{packings};
+ghost use Rattle.bao_run.specs.Play.{IsPlayed, IsShowing, IsUnfitted};
 ghost use Rattle.bao_run.specs.Outcome.{Outcome};
 ghost use Rattle.bao_run.specs.Answers.{Answers};
 
-use crate::input::{Input, read_input};
-use crate::machine::{boot, sample_shape};
+use crate::config::Packed;
+use crate::input::{Input, read_check, read_run};
 use crate::run::run;
 use crate::words::{Command, read_words};
+use arrayvec::ArrayVec;
 use bao_types::OutOfMemory;
 use board::Board;
 use outside::{Shelf, Sink};
-use report::{Part, Status, write_refusal, write_report};
+use report::{Part, Status, write_packing, write_refusal, write_report};
 use std::alloc::Global;
+use vm_create::{boot, shape_for};
+use vm_model::Power;
 
 /// Does all that the program does: reads the words, which don't include the program's name, and the files that they
 /// name, boots the board, takes the events, and writes the report or the line of a refusal.
@@ -75,19 +84,37 @@ fn carry_out<S: Shelf, K: Sink, B: Board>(
       board = record { before = B.state board.old; after = B.state board.new };
     }) result }
 {
-    let (config, schedule) = match read_words(words) {
-        Command::Run { config, schedule } => (config, schedule),
-        Command::Unbuilt => return refuse(sink, Status::NotBuilt { part: Part::Words }),
-        Command::Unknown => return refuse(sink, Status::Usage),
-    };
-    match read_input(alloc, shelf, config, schedule) {
-        Ok(input) => play(alloc, sink, board, &input),
-        Err(status) => refuse(sink, status),
+    match read_words(words) {
+        Command::Run { config, schedule } => match read_run(alloc, shelf, config, schedule) {
+            Ok(input) => play(alloc, sink, board, &input),
+            Err(status) => refuse(sink, status),
+        },
+        Command::Check { config } => match read_check(alloc, shelf, config) {
+            Ok(packed) => show(sink, &packed),
+            Err(status) => refuse(sink, status),
+        },
+        Command::Unbuilt => refuse(sink, Status::NotBuilt { part: Part::Words }),
+        Command::Unknown => refuse(sink, Status::Usage),
     }
 }
 
-/// Boots the board with an image, takes the events and writes the report.
-#[tactic(auto, using(crate::proofs::Refines::sample_is_packed))]
+/// Writes the packing of a configuration.
+fn show<K: Sink>(sink: &mut K, packed: &Packed) -> Status
+    requires { ArePlans (checked_data packed.now.checked) packed.now.plans.items }
+    ensures { IsShowing (checked_data packed.now.checked) (record {
+      taken_before = K.taken sink.old;
+      taken_after = K.taken sink.new;
+      faults_before = K.faults sink.old;
+      faults_after = K.faults sink.new;
+    }) result }
+{
+    match write_packing(sink, &packed.checked, &packed.plans) {
+        Ok(()) => Status::Done,
+        Err(_) => Status::WriteFault,
+    }
+}
+
+/// Boots the board with the images, takes the events and writes the report.
 fn play<K: Sink, B: Board>(alloc: Global, sink: &mut K, board: &mut B, input: &Input) -> Status
     requires unfitted { (B.state board.old).fitted ≡ false }
     requires quiet { (B.state board.old).console ≡ (λ port. []) }
@@ -99,31 +126,38 @@ fn play<K: Sink, B: Board>(alloc: Global, sink: &mut K, board: &mut B, input: &I
       faults_after = K.faults sink.new;
     }) result }
 {
-    if start(alloc, board, input).is_err() {
-        return refuse(sink, Status::OutOfMemory);
-    }
-    if let Err(number) = run(board, &input.events) {
+    let powers = match start(alloc, board, input) {
+        Ok(powers) => powers,
+        Err(OutOfMemory) => return refuse(sink, Status::OutOfMemory),
+    };
+    if let Err(number) = run(board, input, &powers) {
         let part = Part::Event(number);
         return refuse(sink, Status::NotBuilt { part });
     }
-    match write_report(sink, board) {
+    match write_report(sink, board, &input.packed.checked, &powers) {
         Ok(()) => Status::Done,
         Err(_) => Status::WriteFault,
     }
 }
 
-/// Fits the board for the events and boots it with the image.
-fn start<B: Board>(alloc: Global, board: &mut B, input: &Input) -> Result<(), OutOfMemory>
+/// Fits the board for the events and boots it with the images. It answers the power of each core.
+fn start<B: Board>(alloc: Global, board: &mut B, input: &Input) -> Result<ArrayVec<Power, 8>, OutOfMemory>
     requires unfitted { (B.state board.old).fitted ≡ false }
-    requires quiet { (B.state board.old).console ≡ (λ port. []) }
     requires input { CanPlay input.now }
-    ensures { IsStarted input.now.image.items (length input.now.events.items)
-        (record { before = B.state board.old; after = B.state board.new }) result }
+    ensures powers { IfOk result (λ powers. powers.items ≡ boot_powers (input_data input.now).cfg) }
+    ensures board { let data = input_data input.now in
+        OnOk result (B.state board.new
+        ≡ booted data.cfg (packings data.cfg) data.images (fitted_with (shape_of data.cfg (length data.events)) (B.state board.old))) }
+    ensures unfitted { OnErr result (IsUnfitted (record { before = B.state board.old; after = B.state board.new })) }
 {
-    let shape = sample_shape(input.events.len() as u32);
+    let Input {
+        packed,
+        images,
+        events,
+    } = input;
+    let shape = shape_for(&packed.checked, events.len() as u32);
     board.fit(alloc, &shape)?;
-    boot(board, &input.image);
-    Ok(())
+    Ok(boot(board, &packed.checked, &packed.plans, images))
 }
 
 /// Writes the line of a refusal, and gives its status back. A fault at the line leaves the status.
