@@ -4,7 +4,7 @@ ghost use Rattle.bao_wellformed.specs.Checked.{checked_data};
 ghost use Rattle.bao_wellformed.specs.Map.{owner};
 ghost use Rattle.vm_model.specs.Boot.{boot_power, boot_powers};
 
-use crate::owner::{owner, virtual_core};
+use crate::owners::{owner, virtual_core};
 use arrayvec::ArrayVec;
 use bao_config::Config;
 use bao_wellformed::Checked;
@@ -16,7 +16,7 @@ pub fn boot_powers(checked: &Checked) -> ArrayVec<Power, 8>
 {
     let config = checked.config();
     let mut powers = ArrayVec::new();
-    for core in 0..config.platform.cores.len() {
+    for (core, _) in config.platform.cores.as_slice().iter().enumerate() {
         powers.push(boot_power(config, core as u8));
     }
     powers

@@ -1,5 +1,5 @@
-ghost use Rattle.std.specs.Prelude.{◌≡◌, ◌≤◌, ◌<◌, ◌++◌, length, map, option_to_list};
-ghost use Rattle.std.specs.List.{enumerate_from, find, flat_map};
+ghost use Rattle.std.specs.Prelude.{◌≡◌, ◌≢◌, ◌+◌, ◌^◌, ◌≤◌, ◌<◌, ◌++◌, All, length, map, sum};
+ghost use Rattle.std.specs.List.{AllPairs, enumerate_from, find};
 ghost use Rattle.bao_types.specs.Shape.{event_limit, shape_data};
 ghost use Rattle.bao_config.specs.Config.{config_data};
 ghost use Rattle.bao_config.specs.Data.{vm_data};
@@ -8,9 +8,9 @@ ghost use Rattle.bao_wellformed.specs.Map.{has_port, owner};
 ghost use Rattle.board.specs.Machine.{IsFittable};
 ghost use Rattle.vm_create.specs.Shape.{affinity_of, core_mask, core_place, port_spot, shape_of, used_ranges};
 
-use crate::owner::{owner, virtual_core};
+use crate::owners::{owner, virtual_core};
 use arrayvec::ArrayVec;
-use bao_config::{Config, PortPlace};
+use bao_config::{Config, MapRegion, Shmem, Vm};
 use bao_types::{ByteRange, CorePlace, PortSpot, Shape};
 use bao_wellformed::Checked;
 
@@ -22,12 +22,22 @@ pub fn shape_for(checked: &Checked, events: u32) -> Shape
 {
     let config = checked.config();
     Shape {
-        banks: config.platform.banks.clone(),
+        banks: banks(config),
         cores: core_places(config),
-        ports: port_spots(config),
+        ports: port_spots(checked),
         used: used_ranges(config),
         events,
     }
+}
+
+fn banks(config: &Config) -> ArrayVec<ByteRange, 8>
+    ensures { result.items ≡ (config_data config.now).platform.banks }
+{
+    let mut banks = ArrayVec::new();
+    for bank in config.platform.banks.as_slice() {
+        banks.push(*bank);
+    }
+    banks
 }
 
 /// The cores, each with its number of entries and the number that its guest sees.
@@ -36,7 +46,7 @@ fn core_places(config: &Config) -> ArrayVec<CorePlace, 8>
         result.items ≡ map (λ place. core_place cfg place.0 place.1) (enumerate_from 0 cfg.platform.cores) }
 {
     let mut places = ArrayVec::new();
-    for (core, entries) in config.platform.cores.iter().enumerate() {
+    for (core, entries) in config.platform.cores.as_slice().iter().enumerate() {
         places.push(CorePlace {
             entries: *entries,
             affinity: affinity_of(config, core as u8),
@@ -56,35 +66,51 @@ fn affinity_of(config: &Config, core: u8) -> u8
 }
 
 /// The ports, each with the cores of its VM.
-fn port_spots(config: &Config) -> ArrayVec<PortSpot, 16>
-    ensures { let cfg = config_data config.now in result.items ≡ map (port_spot cfg) cfg.platform.ports }
+fn port_spots(checked: &Checked) -> ArrayVec<PortSpot, 16>
+    ensures { let cfg = checked_data checked.now in result.items ≡ map (port_spot cfg) cfg.platform.ports }
 {
     let mut spots = ArrayVec::new();
-    for port in config.platform.ports.iter() {
+    for port in checked.config().platform.ports.as_slice() {
         spots.push(PortSpot {
             id: port.id,
             base: port.base,
             spi: port.spi,
-            cores: core_mask(config, port.id),
+            cores: port_mask(checked, port.id),
         });
     }
     spots
 }
 
 /// The cores of the VM that is given a port, one bit each.
-fn core_mask(config: &Config, port: u8) -> u8
-    ensures { result ≡ core_mask (find (has_port port) (config_data config.now).vms) }
+fn port_mask(checked: &Checked, port: u8) -> u8
+    ensures { result ≡ core_mask (find (has_port port) (checked_data checked.now).vms) }
 {
-    for vm in config.vms.as_slice() {
-        if vm.devs.iter().any(|dev| dev.port == port) {
-            let mut mask = 0;
-            for core in vm.cores.iter() {
-                mask += 1 << *core;
-            }
-            return mask;
+    for vm in checked.config().vms.as_slice() {
+        if has_port(vm, port) {
+            return core_mask(vm.cores.as_slice());
         }
     }
     0
+}
+
+/// Whether the VM is given this port.
+fn has_port(vm: &Vm, port: u8) -> bool
+    ensures { result ≡ has_port port (vm_data vm.now) }
+{
+    vm.devs.iter().any(|dev| dev.port == port)
+}
+
+/// These cores, one bit each.
+fn core_mask(cores: &[u8]) -> u8
+    requires distinct { AllPairs (λ one other. one ≢ other) cores.now }
+    requires low { All (λ core. core < 8) cores.now }
+    ensures { result ≡ sum (map (λ core. 2 ^ core) cores.now) }
+{
+    let mut mask = 0;
+    for core in cores {
+        mask += 1 << *core;
+    }
+    mask
 }
 
 /// Memory in use: the VMs' regions, then the shared memories.
@@ -93,12 +119,27 @@ fn used_ranges(config: &Config) -> ArrayVec<ByteRange, 136>
 {
     let mut used = ArrayVec::new();
     for vm in config.vms.as_slice() {
-        for region in vm.regions.iter() {
-            used.push(region.range);
-        }
+        push_regions(&mut used, vm.regions.as_slice());
     }
-    for shmem in config.shmems.iter() {
+    push_shmems(&mut used, config.shmems.as_slice());
+    used
+}
+
+fn push_regions(used: &mut ArrayVec<ByteRange, 136>, regions: &[MapRegion])
+    requires { length used.old.items + length regions.now ≤ 136 }
+    ensures items { used.new.items ≡ used.old.items ++ map (λ region. region.range) regions.now }
+    ensures len { length used.new.items ≡ length used.old.items + length regions.now }
+{
+    for region in regions {
+        used.push(region.range);
+    }
+}
+
+fn push_shmems(used: &mut ArrayVec<ByteRange, 136>, shmems: &[Shmem])
+    requires { length used.old.items + length shmems.now ≤ 136 }
+    ensures { used.new.items ≡ used.old.items ++ map (λ shmem. shmem.range) shmems.now }
+{
+    for shmem in shmems {
         used.push(shmem.range);
     }
-    used
 }

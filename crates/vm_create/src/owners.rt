@@ -13,13 +13,22 @@ use bao_wellformed::has_core;
 pub fn owner(config: &Config, core: u8) -> Option<&Vm>
     ensures { option_map (λ vm. vm_data vm.now) result ≡ owner (config_data config.now) core }
 {
-    config.vms.iter().find(|vm| has_core(vm, core))
+    for vm in config.vms.as_slice() {
+        if has_core(vm, core) {
+            return Some(vm);
+        }
+    }
+    None
 }
 
 /// The number that a VM's physical core has in it: its place among the VM's cores.
 pub fn virtual_core(vm: &Vm, core: u8) -> Option<u8>
     ensures { result ≡ virtual_core (vm_data vm.now) core }
 {
-    let place = vm.cores.iter().position(|own| *own == core)?;
-    Some(place as u8)
+    for (place, own) in vm.cores.as_slice().iter().enumerate() {
+        if *own == core {
+            return Some(place as u8);
+        }
+    }
+    None
 }
