@@ -4,7 +4,8 @@ use Rattle.std.specs.Prelude.{Some, if◌then◌else◌}
 use Rattle.std.proofs.Math.Seq.{drop-cons}
 use Rattle.report.specs.Sample.{sample}
 use Rattle.board.specs.Machine.{Machine}
-use Rattle.vm_model.specs.Flat.{Flat, On, flat_step, flat_run, is_entered, entered_count, is_event_unbuilt, first_unbuilt}
+use Rattle.vm_model.specs.declared.power.Power.TheVariants.{On}
+use Rattle.vm_model.specs.Flat.{Flat, flat_step, flat_run, is_entered, entered_count, is_event_unbuilt, first_unbuilt}
 use Rattle.vm_model.specs.Project.{project}
 use Rattle.bao_run.specs.Schedule.{flat_event, IsOfCoreZero}
 use Rattle.bao_run.specs.Fresh.{IsReady}

@@ -13,7 +13,9 @@ use Rattle.bao_wellformed.specs.Map.{has_port, class_of, by_map}
 use Rattle.board.specs.declared.board.Exit.TheVariants as exit
 use Rattle.board.specs.Attempt.{reach_of, attempt, core_of, stored_of}
 use Rattle.board.specs.Machine.{Machine, core_at, entries_at, is_port, written, machine_reach, step_attempt, stepped, step_is_unbuilt}
-use Rattle.vm_model.specs.Flat.{Power, On, Step, runs, flat_reach, flat_attempt, flat_stepped, flat_step, is_event_unbuilt}
+use Rattle.vm_model.specs.declared.power.Power.{Power}
+use Rattle.vm_model.specs.declared.power.Power.TheVariants.{On}
+use Rattle.vm_model.specs.Flat.{Step, runs, flat_reach, flat_attempt, flat_stepped, flat_step, is_event_unbuilt}
 use Rattle.vm_model.specs.Project.{project}
 use Rattle.report.specs.Sample.{sample}
 use Rattle.bao_run.specs.Sample.{sample_packing, hypervisor_entry, memory_entry, console_entry}

@@ -5,7 +5,8 @@ use Rattle.bao_config.specs.Data.{ConfigData}
 use Rattle.bao_wellformed.specs.Map.{class_of, by_map}
 use Rattle.board.specs.Stage2.{by_entries}
 use Rattle.board.specs.Machine.{Machine, entries_at, stepped, step_is_unbuilt}
-use Rattle.vm_model.specs.Flat.{Power, Step, runs, flat_step, is_event_unbuilt}
+use Rattle.vm_model.specs.declared.power.Power.{Power}
+use Rattle.vm_model.specs.Flat.{Step, runs, flat_step, is_event_unbuilt}
 use Rattle.vm_model.specs.Project.{project}
 use Rattle.bao_run.specs.Shape.{shape_of}
 use Rattle.mpu_packer.specs.Packing.{Realises}

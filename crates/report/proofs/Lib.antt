@@ -4,4 +4,5 @@ pub mod Texts
 pub mod Runs
 pub mod Memory
 pub mod Lists
+pub mod Vms
 pub mod Shown

@@ -1,8 +1,9 @@
 -- The memory lines of a map, span by span.
-use Rattle.std.proofs.Common.{◌≡◌, ℕ, zero, suc, ◌+◌, ◌-◌, ◌*◌, ◌/◌, ◌<◌, ◌≤◌, Bool, true, false, List, [], ◌++◌, refl, sym, ap, ◌∙◌, arith, append_assoc, inl, inr}
+use Rattle.std.proofs.Common.{◌≡◌, ℕ, zero, suc, ◌+◌, ◌-◌, ◌*◌, ◌/◌, ◌<◌, ◌≤◌, Bool, true, false, List, [], ◌∷◌, ◌++◌, length, get_or, take, refl, sym, ap, subst, ◌∙◌, arith, append_assoc, inl, inr}
 use Rattle.std.specs.Prelude.{if◌then◌else◌, nat_le, nat_lt, not, ◌&&◌, ◌⊎◌, All}
 use Rattle.std.proofs.lemmas.Bool.Decides.{nat_tests}
-use Rattle.std.proofs.lemmas.List.Elements.{All-weaker}
+use Rattle.std.proofs.lemmas.List.{take_all, take_more}
+use Rattle.std.proofs.lemmas.List.Elements.{All-push, All-weaker}
 use Rattle.bao_types.specs.declared.range.ByteRange.{ByteRange}
 use Rattle.bao_types.specs.ByteRange.{end, is_within}
 use Rattle.bao_wellformed.specs.declared.map.Kind.{Kind}
@@ -71,14 +72,15 @@ memory_text-alike kinds bytes n at same = by_memory (is_memory (kinds at)) refl
     by_memory false e = memory_text-none kinds bytes n at (λ k low. ap is_memory (same k low) ∙ e)
 
 -- what is left from a group on, where all bytes up to a bound are of one kind
-pub memory_next : (kinds : ℕ → Kind) (bytes : ℕ → ℕ) (group next bound : ℕ) → 16 * group < bound → next ≡ (bound + 15) / 16
-    → next ≤ all_groups → ((a : ℕ) → 16 * group ≤ a → a < bound → kinds a ≡ kinds (16 * group))
+pub memory_next : (kinds : ℕ → Kind) (bytes : ℕ → ℕ) (group next bound : ℕ) (kind : Kind) → 16 * group < bound → next ≡ (bound + 15) / 16
+    → next ≤ all_groups → kind ≡ kinds (16 * group) → ((a : ℕ) → 16 * group ≤ a → a < bound → kinds a ≡ kinds (16 * group))
     → memory_text kinds bytes (all_groups - group) (16 * group)
-    ≡ alike_text (kinds (16 * group)) bytes (next - group) (16 * group) ++ memory_text kinds bytes (all_groups - next) (16 * next)
-memory_next kinds bytes group next bound more up low alike =
+    ≡ alike_text kind bytes (next - group) (16 * group) ++ memory_text kinds bytes (all_groups - next) (16 * next)
+memory_next kinds bytes group next bound kind more up low is alike =
     memory_text-split kinds bytes (next - group) (all_groups - next) (16 * group) (all_groups - group) (16 * next) (omega arith) (omega arith)
     ∙ ap (λ t. t ++ memory_text kinds bytes (all_groups - next) (16 * next))
     (memory_text-alike kinds bytes (next - group) (16 * group) (λ k few. alike (16 * group + 16 * k) (omega arith) (omega arith)))
+    ∙ ap (λ k. alike_text k bytes (next - group) (16 * group) ++ memory_text kinds bytes (all_groups - next) (16 * next)) (sym is)
 
 pub memory_end : (kinds : ℕ → Kind) (bytes : ℕ → ℕ) (n at : ℕ) → n ≡ 0 → memory_text kinds bytes n at ≡ []
 unfolding memory_text
@@ -98,14 +100,35 @@ module _ (range : ByteRange) (at next a : ℕ) (low : at ≤ a) (high : a < next
   within_alike base last =
       ap (λ b. b && nat_lt a (end range)) (from_alike base) ∙ ap (λ b. nat_le range.base at && b) (to_alike last)
 
--- no bound of these entries lies between two addresses
-abbrev pub AreBeside : ℕ → ℕ → List MapEntry → Type 0
-AreBeside at next entries = All (λ entry. IsBeside entry.range.base at next × IsBeside (end entry.range) at next) entries
+-- a bound stays beside, where the second address is nearer
+beside_nearer : (bound at next next' : ℕ) → next' ≤ next → IsBeside bound at next → IsBeside bound at next'
+beside_nearer bound at next next' low (inl below) = inl below
+beside_nearer bound at next next' low (inr above) = inr (omega (arith, low, above))
 
-pub kinds_alike : (entries : List MapEntry) (at next a : ℕ) → AreBeside at next entries → at ≤ a → a < next
+-- no bound of an entry lies between two addresses
+abbrev pub EntryBeside : ℕ → ℕ → MapEntry → Type 0
+EntryBeside at next entry = IsBeside entry.range.base at next × IsBeside (end entry.range) at next
+
+abbrev pub AreBeside : ℕ → ℕ → List MapEntry → Type 0
+AreBeside at next entries = All (EntryBeside at next) entries
+
+-- one entry more
+pub beside_more : (entries : List MapEntry) (i : ℕ) (entry : MapEntry) (at next next' : ℕ) → i < length entries
+    → entry ≡ get_or entries i entry → AreBeside at next (take i entries) → next' ≤ next → EntryBeside at next' entry
+    → AreBeside at next' (take (i + 1) entries)
+beside_more entries i entry at next next' low is before near here =
+    let so_far : AreBeside at next' (take i entries) =
+    All-weaker (EntryBeside at next) (EntryBeside at next')
+    (λ e both. (beside_nearer e.range.base at next next' near both.0, beside_nearer (end e.range) at next next' near both.1))
+    (take i entries) before in
+    subst (λ es. AreBeside at next' es) (ap (λ e. take i entries ++ e ∷ []) is ∙ sym (take_more entries i entry low))
+    (All-push (EntryBeside at next') (take i entries) entry so_far here)
+
+-- all bytes up to the second address are of one kind, where it is beside all of the entries
+pub kinds_alike : (entries : List MapEntry) (i at next a : ℕ) → length entries ≤ i → AreBeside at next (take i entries) → at ≤ a → a < next
     → kind_in entries a ≡ kind_in entries at
-kinds_alike entries at next a beside low high =
+kinds_alike entries i at next a all beside low high =
     kind_alike entries a at
-    (All-weaker (λ entry. IsBeside entry.range.base at next × IsBeside (end entry.range) at next)
-    (λ entry. is_within entry.range a ≡ is_within entry.range at)
-    (λ entry both. within_alike entry.range at next a low high both.0 both.1) entries beside)
+    (All-weaker (EntryBeside at next) (λ entry. is_within entry.range a ≡ is_within entry.range at)
+    (λ entry both. within_alike entry.range at next a low high both.0 both.1) entries
+    (subst (λ es. AreBeside at next es) (take_all i entries all) beside))

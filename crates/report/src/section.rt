@@ -1,4 +1,4 @@
-ghost use Rattle.std.specs.Prelude.{◌≡◌, ℕ, ◌+◌, ◌*◌, ◌<◌, ◌≤◌, ◌++◌, true, [], ◌∷◌, All, length};
+ghost use Rattle.std.specs.Prelude.{◌≡◌, ℕ, ◌+◌, ◌*◌, ◌<◌, ◌≤◌, ◌++◌, true, [], ◌∷◌, All, length, slice_get};
 ghost use Rattle.outside.specs.Sink.{Takes, HasCause};
 ghost use Rattle.report.specs.Lines.{console_line};
 ghost use Rattle.report.specs.Digits.{hex_bytes};
@@ -54,6 +54,7 @@ pub fn write_section<K: Sink, B: Board>(
 }
 
 /// The virtual cores of a VM, each on its physical core.
+#[tactic(auto, using(outside::proofs::Puts::begun))]
 fn write_cores<K: Sink, B: Board>(
     sink: &mut K,
     board: &B,
@@ -86,8 +87,15 @@ fn write_core<K: Sink, B: Board>(
     ensures taken { Takes (K.taken sink.old) (K.taken sink.new) (core_text (project powers.now (B.state board.now)) j core) result }
     ensures cause { HasCause (K.faults sink.old) (K.faults sink.new) result }
 {
-    put_core(sink, j, powers.get(usize::from(core)).copied())?;
+    put_core(sink, j, power_of(powers, core))?;
     write_registers(sink, &board.core_view(core))
+}
+
+/// The power of a core, where the machine has it.
+fn power_of(powers: &[Power], core: u8) -> Option<Power>
+    ensures { result ≡ slice_get powers.now core }
+{
+    powers.get(usize::from(core)).copied()
 }
 
 /// The registers of a core.
@@ -176,6 +184,7 @@ fn write_x<K: Sink>(sink: &mut K, values: &[u64; 31]) -> Result<(), SinkFailed>
 }
 
 /// What the consoles among a VM's devs have put out, in their order.
+#[tactic(auto, using(outside::proofs::Puts::begun))]
 fn write_consoles<K: Sink, B: Board>(
     sink: &mut K,
     board: &B,
@@ -235,6 +244,7 @@ fn write_output<K: Sink, B: Board>(sink: &mut K, board: &B, port: u8) -> Result<
 }
 
 /// The memory of a VM by its map: each group of 16 bytes that isn't all zero.
+#[tactic(auto, using(outside::proofs::Puts::begun))]
 fn write_memory<K: Sink, B: Board>(
     sink: &mut K,
     board: &B,

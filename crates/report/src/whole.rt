@@ -30,6 +30,7 @@ pub fn write_report<K: Sink, B: Board>(
 }
 
 /// The sections of the VMs, in the configuration's order.
+#[tactic(auto, using(outside::proofs::Puts::begun))]
 fn write_sections<K: Sink, B: Board>(
     sink: &mut K,
     board: &B,

@@ -5,8 +5,8 @@ use Rattle.bao_config.specs.Data.{ConfigData}
 use Rattle.bao_wellformed.specs.Map.{owner, is_platform_port, by_map}
 use Rattle.board.specs.Attempt.{Reach, reach_of, Effect, attempt, core_of, stored_of}
 use Rattle.board.specs.Machine.{core_at, written}
-pub use Rattle.vm_model.specs.declared.power.Power.{Power}
-pub use Rattle.vm_model.specs.declared.power.Power.TheVariants.{On, Off}
+use Rattle.vm_model.specs.declared.power.Power.{Power}
+use Rattle.vm_model.specs.declared.power.Power.TheVariants.{On, Off}
 
 -- memory by address, each core's registers and power by its number, what each port has put out, and the count of the last step
 pub record Flat : Type 0 where

@@ -1,16 +1,10 @@
-use Rattle.std.proofs.Common.{◌≤◌, ℕ, List, length, refl, ap, ◌∙◌, arith}
-use Rattle.std.specs.Prelude.{IsTrue}
-use Rattle.std.proofs.lemmas.Bool.Decides.{nat_tests}
+use Rattle.std.proofs.Common.{◌≤◌, length, refl, ap, ◌∙◌, arith}
 use Rattle.bao_config.specs.Config.{config_data}
 use Rattle.bao_config.specs.Data.{vm_data}
-use Rattle.bao_config.specs.Texts.{is_name}
 use Rattle.bao_wellformed.proofs.Fits.{vm_fits}
 use Rattle.mpu_packer.proofs.Owners.{vm_at}
+use Rattle.report.proofs.Vms.{short_name}
 use Rattle.report.proofs.packing.owner_name.Goals as goal
-
--- a name has 16 bytes at most
-short_name : (name : List ℕ) → IsTrue (is_name name) → length name ≤ 16
-short_name name h = grind (arith, nat_tests)
 
 pub returns-then-has_core-clause-len : goal.returns-then-has_core-clause-len
 returns-then-has_core-clause-len c =

@@ -1,41 +1,38 @@
-use Rattle.std.proofs.Common.{◌≡◌, rules, arith, ◌+◌, ◌-◌, subst}
+use Rattle.std.proofs.Common.{◌≤◌, ◌+◌, ◌/◌, rules, refl, arith}
 use Rattle.std.specs.Prelude.{IsErr}
 use Rattle.std.proofs.lemmas.Result.{MatchResult-from_err}
-use Rattle.report.specs.Groups.{groups_text}
-use Rattle.report.proofs.Texts.{groups_go_on, groups_stop, groups_end}
-use Rattle.report.proofs.Progress.{IsUnderWay}
+use Rattle.bao_wellformed.specs.ByteRules.{kind_in}
+use Rattle.report.specs.Section.{all_groups}
+use Rattle.report.proofs.Lists.{goes_past, stops_within, ends_whole}
+use Rattle.report.proofs.Memory.{memory_next, memory_end}
 use Rattle.report.proofs.section.write_memory.Goals as goal
 
-pub returns-in_err-write_group-clause-taken : goal.returns-in_err-write_group-clause-taken
-returns-in_err-write_group-clause-taken g c =
+pub returns-in_err-write_alike-clause-taken : goal.returns-in_err-write_alike-clause-taken
+returns-in_err-write_alike-clause-taken g c =
+    let bound = c.next_change.result in
+    let low : (bound + 15) / 16 ≤ all_groups = omega (arith, c.next_change.ensures.space) in
     let failed : IsErr c.from_residual.result = search rules in
     MatchResult-from_err c.from_residual.result _ _ failed
-    (λ _. groups_stop (g.K.Sink.taken c.args.sink.now) (g.K.Sink.taken c.loop-i.sink)
-    (g.B.Board.state c.args.board.now).bytes
-    (groups_text (g.B.Board.state c.args.board.now).bytes c.args.groups c.args.first)
-    (c.args.groups - c.loop-i.i) c.loop-i.at
-    (g.K.Sink.taken c.write_group.new.sink) (omega arith) c.loop-i.invariant.text c.in_err-write_group.ensures.taken)
+    (λ _. stops_within _ _ _ _ c.loop-group.invariant.text (g.K.Sink.taken c.write_alike.new.sink) _ _
+    (memory_next (kind_in c.args.map.now) (g.B.Board.state c.args.board.now).bytes c.loop-group.group ((bound + 15) / 16) bound
+    c.kind_in.result c.next_change.ensures.above refl low c.kind_in.ensures c.next_change.ensures.alike)
+    c.in_err-write_alike.ensures.taken)
 
-pub loop-i-preserved : goal.loop-i-preserved
-loop-i-preserved g c = record {
-  text =
-      let fewer : (c.args.groups - c.loop-i.i) - 1 ≡ c.args.groups - (c.loop-i.i + 1) = omega arith in
-      subst (λ n. IsUnderWay (g.K.Sink.taken c.args.sink.now) (g.K.Sink.taken c.write_group.new.sink)
-      (groups_text (g.B.Board.state c.args.board.now).bytes c.args.groups c.args.first)
-      (groups_text (g.B.Board.state c.args.board.now).bytes n (c.loop-i.at + 16))) fewer
-      (groups_go_on (g.K.Sink.taken c.args.sink.now) (g.K.Sink.taken c.loop-i.sink)
-      (g.B.Board.state c.args.board.now).bytes
-      (groups_text (g.B.Board.state c.args.board.now).bytes c.args.groups c.args.first)
-      (c.args.groups - c.loop-i.i) c.loop-i.at
-      (g.K.Sink.taken c.write_group.new.sink) (omega arith) c.loop-i.invariant.text c.in_ok-write_group.ensures.taken);
-  place = omega arith;
-  faults = search rules;
-}
+pub loop-group-preserved : goal.loop-group-preserved
+loop-group-preserved g c =
+    let bound = c.next_change.result in
+    let low : (bound + 15) / 16 ≤ all_groups = omega (arith, c.next_change.ensures.space) in
+    record {
+      text =
+          goes_past _ _ _ _ c.loop-group.invariant.text (g.K.Sink.taken c.write_alike.new.sink) _ _
+          (memory_next (kind_in c.args.map.now) (g.B.Board.state c.args.board.now).bytes c.loop-group.group ((bound + 15) / 16) bound
+          c.kind_in.result c.next_change.ensures.above refl low c.kind_in.ensures c.next_change.ensures.alike)
+          c.in_ok-write_alike.ensures.taken;
+      low = low;
+      faults = search rules;
+    }
 
 pub returns-clause-taken : goal.returns-clause-taken
 returns-clause-taken g c =
-    let all : c.args.groups - c.loop-i.i ≡ 0 = omega arith in
-    groups_end (g.K.Sink.taken c.args.sink.now) (g.K.Sink.taken c.loop-i.sink)
-    (g.B.Board.state c.args.board.now).bytes
-    (groups_text (g.B.Board.state c.args.board.now).bytes c.args.groups c.args.first)
-    (c.args.groups - c.loop-i.i) c.loop-i.at all c.loop-i.invariant.text
+    ends_whole _ _ _ _ c.loop-group.invariant.text
+    (memory_end (kind_in c.args.map.now) (g.B.Board.state c.args.board.now).bytes _ _ (omega (arith, c.loop-group-test.false)))
