@@ -1,8 +1,8 @@
 -- A text that a loop puts out piece by piece.
 use Rattle.std.proofs.Common.{◌≡◌, ℕ, List, [], ◌++◌, refl, sym, ap, ◌∙◌, append_assoc, append-nil}
-use Rattle.std.specs.Prelude.{Option}
-use Rattle.outside.specs.Sink.{grown, TakesPart}
-use Rattle.outside.proofs.Puts.{grown-nil, grows_on}
+use Rattle.std.specs.Prelude.{Option, Result, Ok, Err}
+use Rattle.outside.specs.Sink.{grown, Takes, TakesPart}
+use Rattle.outside.proofs.Puts.{grown-nil, grows_on, part_second}
 
 -- from start to now the first part of a whole text was taken; so much is left
 pub record IsUnderWay (start now : Option (List ℕ)) (whole left : List ℕ) : Type 0 where
@@ -41,3 +41,9 @@ all_taken start now whole way = way.grows ∙ ap (grown start) (sym (way.splits 
 -- nothing is to be put out
 pub nothing_taken : (old : Option (List ℕ)) (text : List ℕ) → text ≡ [] → old ≡ grown old text
 nothing_taken old text empty = sym (ap (grown old) empty ∙ grown-nil old)
+
+-- behind a text that was taken
+pub takes_behind : {T E : Type 0} (old now new : Option (List ℕ)) (first second : List ℕ) (result : Result T E) → now ≡ grown old first
+    → Takes now new second result → Takes old new (first ++ second) result
+takes_behind old now new first second (Ok value) one two = grows_on old now new first second one two
+takes_behind old now new first second (Err error) one two = part_second old now new first second one two

@@ -10,7 +10,7 @@ returns-in_err-write_console_of-clause-taken g c =
     let failed : IsErr c.from_residual.result = search rules in
     MatchResult-from_err c.from_residual.result _ _ failed
     (λ _. stops_within _ _ _ _ c.loop-dev.invariant.text (g.K.Sink.taken c.write_console_of.new.sink) _ _
-    (consoles_next console c.args.devs.now c.loop-dev.dev-index c.write_console_of-arg-1.result (omega arith) c.write_console_of-arg-1.is)
+    (consoles_next console c.args.devs.now c.loop-dev.dev-index _ (omega arith) (search rules))
     c.in_err-write_console_of.ensures.taken)
 
 pub loop-dev-preserved : goal.loop-dev-preserved
@@ -19,7 +19,7 @@ loop-dev-preserved g c =
     record {
       text =
           goes_past _ _ _ _ c.loop-dev.invariant.text (g.K.Sink.taken c.write_console_of.new.sink) _ _
-          (consoles_next console c.args.devs.now c.loop-dev.dev-index c.write_console_of-arg-1.result (omega arith) c.write_console_of-arg-1.is)
+          (consoles_next console c.args.devs.now c.loop-dev.dev-index _ (omega arith) (search rules))
           c.in_ok-write_console_of.ensures.taken;
       faults = search rules;
     }

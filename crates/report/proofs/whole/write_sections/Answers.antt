@@ -1,30 +1,72 @@
-use Rattle.std.proofs.Common.{rules, ◌≡◌, ◌++◌, true, length, ℕ, ◌+◌, ◌-◌, ◌*◌, ◌<◌, ◌≤◌, ◌/◌, ◌%◌, Bool, false, nat_eq, nat_lt, List, [], ◌∷◌, slice_index_or, slice_set, bit_and, bit_or, Fits, w8, w32, w64, Bor, MutBor}
-use Rattle.outside.specs.Sink.{Takes, HasCause}
+use Rattle.std.proofs.Common.{◌≤◌, ◌<◌, ◌+◌, ◌∙◌, ◌++◌, map, drop, All, length, sym, ap, subst, rules, arith}
+use Rattle.std.specs.Prelude.{IsErr}
+use Rattle.std.proofs.lemmas.Result.{MatchResult-from_err}
+use Rattle.bao_types.specs.ByteRange.{address_space_end, end}
+use Rattle.bao_config.specs.Config.{config_data}
+use Rattle.bao_config.specs.Data.{ConfigData, vm_data}
 use Rattle.bao_wellformed.specs.Checked.{checked_data}
+use Rattle.bao_wellformed.specs.Map.{map_of}
+use Rattle.bao_wellformed.proofs.Fits.{vm_fits}
+use Rattle.bao_wellformed.proofs.Places.{cores_of_platform, maps_in_space}
+use Rattle.mpu_packer.proofs.Owners.{vm_at}
 use Rattle.vm_model.specs.Project.{project}
-use Rattle.report.specs.Section.{report, sections}
+use Rattle.report.specs.Section.{vm_text, sections}
+use Rattle.report.proofs.Lists.{goes_past, stops_within, ends_whole, sections_next, sections_none}
+use Rattle.report.proofs.Vms.{short_name}
 use Rattle.report.proofs.whole.write_sections.Goals as goal
 
--- src/whole.rt:47:9
 pub write_section-requires-clause-name : goal.write_section-requires-clause-name
-write_section-requires-clause-name g c = ?
+write_section-requires-clause-name g c =
+    let checked = c.args.checked.now in let v = c.loop-vm.vm-index in let vm = c.vm-item.result in
+    let is =
+    vm_at (checked_data checked) c.config.result.now c.as_slice-vm-items.result.now v vm c.config.ensures c.as_slice-vm-items.ensures.value
+    c.loop-vm-test.true c.vm-item.is in
+    short_name vm.name (vm_fits (checked_data checked) v (vm_data vm) checked.config.fits is).name
 
--- src/whole.rt:47:9
 pub write_section-requires-clause-cores : goal.write_section-requires-clause-cores
-write_section-requires-clause-cores g c = ?
+write_section-requires-clause-cores g c =
+    let checked = c.args.checked.now in let v = c.loop-vm.vm-index in let vm = c.vm-item.result in
+    let is =
+    vm_at (checked_data checked) c.config.result.now c.as_slice-vm-items.result.now v vm c.config.ensures c.as_slice-vm-items.ensures.value
+    c.loop-vm-test.true c.vm-item.is in
+    subst (λ n. All (λ core. core < n) vm.cores.items) (sym c.requires.cores)
+    (cores_of_platform (checked_data checked) v (vm_data vm) checked.well_formed is)
 
--- src/whole.rt:47:9
 pub write_section-requires-clause-space : goal.write_section-requires-clause-space
-write_section-requires-clause-space g c = ?
+write_section-requires-clause-space g c =
+    let checked = c.args.checked.now in let v = c.loop-vm.vm-index in let vm = c.vm-item.result in
+    let is =
+    vm_at (checked_data checked) c.config.result.now c.as_slice-vm-items.result.now v vm c.config.ensures c.as_slice-vm-items.ensures.value
+    c.loop-vm-test.true c.vm-item.is in
+    subst (λ (cfg : ConfigData). All (λ entry. end entry.range ≤ address_space_end) (map_of cfg (vm_data vm))) (sym c.config-in-loop-vm.ensures)
+    (maps_in_space (checked_data checked) v (vm_data vm) checked.well_formed is)
 
--- src/whole.rt:47:9
 pub returns-in_err-write_section-clause-taken : goal.returns-in_err-write_section-clause-taken
-returns-in_err-write_section-clause-taken g c = ?
+returns-in_err-write_section-clause-taken g c =
+    let cfg = checked_data c.args.checked.now in let f = project c.args.powers.now (g.B.Board.state c.args.board.now) in
+    let vms = c.as_slice-vm-items.result.now in let i = c.loop-vm.vm-index in let vm = c.vm-item.result in
+    let failed : IsErr c.from_residual.result = search rules in
+    MatchResult-from_err c.from_residual.result _ _ failed
+    (λ _. stops_within _ _ _ _ c.loop-vm.invariant.text (g.K.Sink.taken c.write_section.new.sink) _ _
+    (sections_next cfg f vms i vm c.loop-vm-test.true c.vm-item.is
+    ∙ ap (λ (cfg' : ConfigData). vm_text cfg' f (vm_data vm) ++ sections cfg f (map vm_data (drop (i + 1) vms))) (sym c.config-in-loop-vm.ensures))
+    c.in_err-write_section.ensures.taken)
 
--- src/whole.rt:46:5
 pub loop-vm-preserved : goal.loop-vm-preserved
-loop-vm-preserved g c = ?
+loop-vm-preserved g c =
+    let cfg = checked_data c.args.checked.now in let f = project c.args.powers.now (g.B.Board.state c.args.board.now) in
+    let vms = c.as_slice-vm-items.result.now in let i = c.loop-vm.vm-index in let vm = c.vm-item.result in
+    record {
+      text =
+          goes_past _ _ _ _ c.loop-vm.invariant.text (g.K.Sink.taken c.write_section.new.sink) _ _
+          (sections_next cfg f vms i vm c.loop-vm-test.true c.vm-item.is
+          ∙ ap (λ (cfg' : ConfigData). vm_text cfg' f (vm_data vm) ++ sections cfg f (map vm_data (drop (i + 1) vms))) (sym c.config-in-loop-vm.ensures))
+          c.in_ok-write_section.ensures.taken;
+      faults = search rules;
+    }
 
--- src/whole.rt:33:1
 pub returns-clause-taken : goal.returns-clause-taken
-returns-clause-taken g c = ?
+returns-clause-taken g c =
+    ends_whole _ _ _ _ c.loop-vm.invariant.text
+    (sections_none (checked_data c.args.checked.now) (project c.args.powers.now (g.B.Board.state c.args.board.now))
+    c.as_slice-vm-items.result.now c.loop-vm.vm-index (omega (arith, c.loop-vm-test.false)))
