@@ -1,6 +1,6 @@
 -- How the ruling goes on past what passes, and where it stops.
-use Rattle.std.proofs.Common.{◌≡◌, ℕ, zero, suc, ◌+◌, ◌<◌, ◌≤◌, Bool, true, false, List, [], ◌∷◌, ◌++◌, length, map, find, cond, drop, Option, None, Some, slice_get, refl, sym, subst, ap, ◌∙◌, absurd, arith}
-use Rattle.std.specs.Prelude.{if◌then◌else◌, nat_lt, ⊤, ⊥}
+use Rattle.std.proofs.Common.{◌≡◌, ℕ, zero, suc, ◌+◌, ◌<◌, ◌≤◌, Bool, true, false, List, [], ◌∷◌, ◌++◌, length, map, find, cond, drop, Option, None, Some, slice_get, refl, sym, subst, ap, ◌∙◌, arith}
+use Rattle.std.specs.Prelude.{if◌then◌else◌, nat_lt}
 use Rattle.std.specs.Option.{option_map}
 use Rattle.std.specs.Cmp.Lexicographic.{other_text}
 use Rattle.std.proofs.lemmas.Bool.Decides.{nat_tests}
@@ -42,14 +42,14 @@ pub images_pass : (files : Files) (next : List (List ℕ) → Ruling) (v : ℕ) 
     → rule_images files next v vms ≡ rule_images files (λ others. next (images ++ others)) (v + length images) (drop (length images) vms)
 images_pass files next v vms [] come = let here : v + 0 ≡ v = omega arith in rw here refl
 images_pass files next v [] (image ∷ images) come = absurd come
-images_pass files next v (vm ∷ vms) (image ∷ images) (held, (fits, rest)) =
+images_pass files next v (vm ∷ vms) (image ∷ images) (held, fits, rest) =
     let few : nat_lt (image_limit vm) (length image) ≡ false = grind (arith, nat_tests) in
     let place : v + 1 + length images ≡ v + suc (length images) = omega arith in
     rw (held, few)
     (images_pass files (λ others. next (image ∷ others)) (v + 1) vms images rest
     ∙ ap (λ n. rule_images files (λ others. next (image ∷ (images ++ others))) n (drop (length images) vms)) place)
 
-same_itself : (text : List ℕ) → same text text ≡ true
+pub same_itself : (text : List ℕ) → same text text ≡ true
 same_itself text = by_test (same text text) refl
   where
     by_test : (b : Bool) → b ≡ same text text → b ≡ true
@@ -93,15 +93,21 @@ module _ (files : Files) (name schedule : List ℕ) where
       found_now true e found = cc
       found_now false e found = cc
   missed next ends v [] (image ∷ images) come here first found = absurd come
-  missed next ends v (vm ∷ vms) images come here first found = by_test (same vm.image name) refl images come here found
+  missed next ends v (vm ∷ vms) images come here first found =
+      by_test (same vm.image name) refl
+      (λ next ends images come here found. missed next ends (v + 1) vms images come here first found) images come here found
     where
-      by_test : (b : Bool) → same vm.image name ≡ b → (images : List (List ℕ)) → AreImages files (vm ∷ vms) images → IsNext (vm ∷ vms) images
+      by_test : (b : Bool) → same vm.image name ≡ b
+          → ((next : List (List ℕ) → Ruling) → (same schedule name ≡ true → (images : List (List ℕ)) → next images ≡ Missing file.Schedule)
+          → (images : List (List ℕ)) → AreImages files vms images → IsNext vms images → first_named name (names (v + 1) vms) ≡ Some first
+          → rule_images (lacking name files) next (v + 1) vms ≡ Missing first)
+          → (images : List (List ℕ)) → AreImages files (vm ∷ vms) images → IsNext (vm ∷ vms) images
           → option_map (λ f. f.0) (cond b (Some (file.Image v, vm.image)) (find (λ named. same named.1 name) (names (v + 1) vms))) ≡ Some first
           → rule_image (λ image. rule_images (lacking name files) (λ images. next (image ∷ images)) (v + 1) vms) v vm (if b then None else files vm.image)
           ≡ Missing first
-      by_test true is images come here found = cc
-      by_test false isnt [] come here found = let clash : true ≡ false = sym here ∙ isnt in cc
-      by_test false isnt (image ∷ images) (held, (fits, rest)) here found =
+      by_test true is rest images come here found = cc
+      by_test false isnt rest [] come here found = let clash : true ≡ false = sym here ∙ isnt in cc
+      by_test false isnt rest (image ∷ images) (held, fits, others) here found =
           let few : nat_lt (image_limit vm) (length image) ≡ false = grind (arith, nat_tests) in
           rw (held, few)
-          (missed (λ images. next (image ∷ images)) (λ is images. ends is (image ∷ images)) (v + 1) vms images rest here first found)
+          (rest (λ images. next (image ∷ images)) (λ is images. ends is (image ∷ images)) images others here found)

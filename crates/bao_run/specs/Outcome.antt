@@ -1,5 +1,5 @@
 -- What each answer of the top call means.
-use Rattle.std.specs.Prelude.{◌≡◌, ℕ, ◌+◌, ◌⊎◌, List, [], ◌∷◌, ◌++◌, Some, ⊥}
+use Rattle.std.specs.Prelude.{◌≡◌, ℕ, ◌+◌, ◌⊎◌, List, [], ◌∷◌, ◌++◌, Some}
 use Rattle.bao_config.specs.Data.{ConfigData, VmData}
 use Rattle.bao_config.specs.Fits.{ConfigFits}
 use Rattle.bao_wellformed.specs.WellFormed.{IsWellFormed}

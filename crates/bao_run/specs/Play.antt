@@ -1,5 +1,5 @@
 -- What the parts of a run answer, between the reading of the files and the report.
-use Rattle.std.specs.Prelude.{◌≡◌, ℕ, true, false, Option, None, Some, length, ⊥}
+use Rattle.std.specs.Prelude.{◌≡◌, ℕ, true, false, Option, None, Some, length}
 use Rattle.report.specs.declared.status.Part.TheVariants as part
 use Rattle.report.specs.declared.status.Status.{Status}
 use Rattle.report.specs.declared.status.Status.TheVariants as status

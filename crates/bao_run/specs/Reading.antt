@@ -1,5 +1,5 @@
 -- What the parts of reading answer: the configuration, the packings, and the images. No public clause cites this module.
-use Rattle.std.specs.Prelude.{◌≡◌, ◌≤◌, ℕ, List, [], ◌∷◌, Vec, Option, Some, None, Result, Ok, Err, length, map, slice_get, ⊤, ⊥}
+use Rattle.std.specs.Prelude.{◌≡◌, ◌≤◌, ℕ, List, [], ◌∷◌, Vec, Option, Some, None, Result, Ok, Err, length, map, slice_get, ⊤}
 use Rattle.std.specs.declared.alloc.Global.{Global}
 use Rattle.bao_config.specs.Answer.{spelled}
 use Rattle.bao_config.specs.Data.{ConfigData, VmData}
@@ -39,7 +39,7 @@ IsConfigAnswer shelf config (Ok checked) =
     IfHeld shelf.held (λ files. HoldsConfig files config (checked_data checked)) × IsFaultless shelf
 IsConfigAnswer shelf config (Err status.Done) = ⊥
 IsConfigAnswer shelf config (Err status.Usage) = ⊥
-IsConfigAnswer shelf config (Err (status.ReadFault file)) = (file ≡ file.Config) × HasFailed shelf config
+IsConfigAnswer shelf config (Err (status.ReadFault id)) = (id ≡ file.Config) × HasFailed shelf config
 IsConfigAnswer shelf config (Err (status.TooLong file limit)) = RefusesConfig shelf config (status.TooLong file limit)
 IsConfigAnswer shelf config (Err status.BadToml) = RefusesConfig shelf config status.BadToml
 IsConfigAnswer shelf config (Err (status.IllConfig why)) = RefusesConfig shelf config (status.IllConfig why)

@@ -13,7 +13,7 @@ pub record IsReady (cfg : ConfigData) (powers : List Power) (m : Machine) : Type
   pub fitted : m.fitted ≡ true
   pub shape : m.shape ≡ shape_of cfg m.shape.events
   pub packed : ArePacked cfg m.entries
-  pub powers : powers ≡ boot_powers cfg
+  pub on : powers ≡ boot_powers cfg
 
 -- the core is on
 abbrev pub is_core_on : List Power → ℕ → Bool

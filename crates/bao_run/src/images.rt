@@ -1,7 +1,8 @@
 ghost use Rattle.std.specs.Prelude.{◌≡◌, unwrap_or};
 ghost use Rattle.bao_wellformed.specs.Checked.{checked_data};
 ghost use Rattle.report.specs.declared.status.FileId.TheVariants as file;
-ghost use Rattle.bao_run.specs.Words.{Run};
+ghost use Rattle.std.specs.List.{position_from};
+ghost use Rattle.bao_run.specs.Words.{Run, same};
 ghost use Rattle.bao_run.specs.Input.{files_of, first_named};
 ghost use Rattle.bao_run.specs.Reading.{IsImagesAnswer};
 
@@ -39,7 +40,7 @@ pub fn read_images<S: Shelf>(
     Ok(images)
 }
 
-/// The first file of a run that has this name, the schedule's where no other has it.
+/// The first file of a run that has this name, the schedule where no other has it.
 pub fn first_named(config: &str, schedule: &str, checked: &Checked, name: &str) -> FileId
     ensures { let cfg = checked_data checked.now in
         result ≡ unwrap_or (first_named name.now (files_of (Run config.now schedule.now) cfg)) file.Schedule }
@@ -47,10 +48,20 @@ pub fn first_named(config: &str, schedule: &str, checked: &Checked, name: &str) 
     if config == name {
         return FileId::Config;
     }
+    match image_named(checked, name) {
+        Some(v) => FileId::Image(v),
+        None => FileId::Schedule,
+    }
+}
+
+/// The place of the first VM whose image has this name.
+fn image_named(checked: &Checked, name: &str) -> Option<u8>
+    ensures { result ≡ position_from (λ vm. same vm.image name.now) 0 (checked_data checked.now).vms }
+{
     for (v, vm) in checked.config().vms.as_slice().iter().enumerate() {
         if vm.image.as_str() == name {
-            return FileId::Image(v as u8);
+            return Some(v as u8);
         }
     }
-    FileId::Schedule
+    None
 }

@@ -93,11 +93,12 @@ fn pack_built(alloc: Global, checked: Checked) -> Result<Packed, Status>
 fn has_window(checked: &Checked) -> bool
     ensures { result ≡ has_window (checked_data checked.now).vms }
 {
-    checked
-        .config()
-        .vms
-        .iter()
-        .any(|vm| !vm.ipcs.is_empty())
+    for vm in checked.config().vms.as_slice() {
+        if !vm.ipcs.is_empty() {
+            return true;
+        }
+    }
+    false
 }
 
 /// The status of a core that has no packing.
