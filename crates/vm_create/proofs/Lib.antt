@@ -1,0 +1,4 @@
+pub mod Mixed
+pub mod Backed
+pub mod Masks
+pub mod Safe

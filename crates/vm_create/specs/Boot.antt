@@ -1,5 +1,5 @@
 -- The boot of all VMs: what it is given, and how it leaves the board.
-use Rattle.std.specs.Prelude.{◌≡◌, ℕ, ◌-◌, ◌==◌, ◌≤◌, if◌then◌else◌, List, [], ◌∷◌, ◌++◌, length, map, replicate, slice_get, Option, None, Some}
+use Rattle.std.specs.Prelude.{◌≡◌, ℕ, ◌-◌, ◌==◌, ◌≤◌, if◌then◌else◌, Bool, false, List, [], ◌∷◌, ◌++◌, length, map, replicate, slice_get, Option, None, Some}
 use Rattle.bao_types.specs.declared.region.Region.{Region}
 use Rattle.bao_types.specs.Region.{no_region}
 use Rattle.bao_config.specs.Data.{ConfigData, VmData}
@@ -38,7 +38,7 @@ filled count packed = packed ++ replicate (count - length packed) no_region
 -- of all cores
 abbrev pub all_filled : List ℕ → List (List Region) → List (List Region)
 all_filled [] packings = []
-all_filled (count ∷ counts) [] = []
+all_filled (count ∷ counts) [] = filled count [] ∷ all_filled counts []
 all_filled (count ∷ counts) (packed ∷ packings) = filled count packed ∷ all_filled counts packings
 
 -- the entries of the plans

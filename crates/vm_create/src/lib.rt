@@ -3,12 +3,8 @@
 //! Nothing here takes memory. After the boot memory, cores and powers are those with which the model begins.
 #![tactic(auto)]
 
-pub use boot::boot;
-pub use owner::{owner, virtual_core};
-pub use power::boot_powers;
-pub use shape::shape_for;
+pub use booting::boot;
+pub use owners::{owner, virtual_core};
 
-mod boot;
-mod owner;
-mod power;
-mod shape;
+mod booting;
+mod owners;

@@ -13,7 +13,12 @@ use bao_wellformed::has_core;
 pub fn owner(config: &Config, core: u8) -> Option<&Vm>
     ensures { option_map (λ vm. vm_data vm.now) result ≡ owner (config_data config.now) core }
 {
-    config.vms.iter().find(|vm| has_core(vm, core))
+    for vm in config.vms.as_slice() {
+        if has_core(vm, core) {
+            return Some(vm);
+        }
+    }
+    None
 }
 
 /// The number that a VM's physical core has in it: its place among the VM's cores.
