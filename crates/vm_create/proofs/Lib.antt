@@ -2,3 +2,5 @@ pub mod Mixed
 pub mod Backed
 pub mod Masks
 pub mod Safe
+pub mod Loaded
+pub mod Filled

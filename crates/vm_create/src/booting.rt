@@ -72,6 +72,7 @@ fn set_core_entries<B: Board>(board: &mut B, checked: &Checked, core: u8, plan: 
     requires fitted { (B.state board.old).fitted ≡ true }
     requires at_rest { (B.state board.old).entered ≡ 0 }
     requires shape { (B.state board.old).shape ≡ shape_of (checked_data checked.now) (B.state board.old).shape.events }
+    requires core { core < length (B.state board.old).entries }
     requires plan { IsPlanOf (checked_data checked.now) core plan.now }
     requires zero { entries_at (B.state board.old).entries core ≡ filled (length (entries_at (B.state board.old).entries core)) [] }
     requires room { length plan.now.entries.items ≤ length (entries_at (B.state board.old).entries core) }
