@@ -8,6 +8,7 @@ use Rattle.bao_types.specs.declared.region.Region.{Region}
 use Rattle.bao_types.specs.Region.{no_region}
 use Rattle.bao_config.specs.Data.{ConfigData}
 use Rattle.vm_create.specs.Boot.{all_filled, filled}
+use Rattle.vm_create.proofs.Mixed.{length_mixed, mixed, mixed_all, mixed_next, mixed_set}
 use Rattle.vm_create.specs.Shape.{core_place, shape_of}
 
 none_left : (count : ℕ) → filled count [] ≡ replicate count no_region
@@ -111,3 +112,41 @@ module _ (before entries : List (List Region)) (core count i : ℕ) (packed : Li
       ∙ set-set before core (filled count (take i packed)) (set (filled count (take i packed)) i entry)
       ∙ ap (set before core) (filled_more count packed i entry got fits)
       ∙ ap (λ n. set before core (filled count (take n packed))) (sym step)
+
+-- all cores while they are set: the next one still has zero entries
+module _ (counts : List ℕ) (packings entries : List (List Region)) (core : ℕ) (is : entries ≡ mixed core (all_filled counts packings) (all_filled counts [])) where
+  module _ (most : ℕ) (of_platform : slice_get counts core ≡ Some most) where
+    low : core < length counts
+    low = slice_get_within counts core most of_platform
+
+    pub entries_within : core < length entries
+    entries_within =
+        let n = length_all_filled counts packings in let m = length_all_filled counts [] in let l = low in
+        let same = length_mixed core (all_filled counts packings) (all_filled counts []) (omega (arith, l, n)) (omega (arith, l, m)) in
+        omega (arith, l, m, same, ap length is)
+
+    pub next_none : get_or entries core [] ≡ filled most []
+    next_none =
+        let n = length_all_filled counts packings in let m = length_all_filled counts [] in let l = low in
+        ap (λ all. get_or all core []) is
+        ∙ mixed_next (all_filled counts packings) (all_filled counts []) core [] (omega (arith, l, n)) (omega (arith, l, m))
+        ∙ none_filled_got counts core most of_platform
+
+    pub next_count : length (get_or entries core []) ≡ most
+    next_count = ap length next_none ∙ length_none most
+
+    pub next_filled : (next : ℕ) (packed : List Region) → slice_get packings core ≡ Some packed → next ≡ suc core
+        → set entries core (filled (length (get_or entries core [])) packed) ≡ mixed next (all_filled counts packings) (all_filled counts [])
+    next_filled next packed got step =
+        let m = length_all_filled counts [] in let l = low in
+        ap (λ n. set entries core (filled n packed)) next_count
+        ∙ ap (λ all. set all core (filled most packed)) is
+        ∙ mixed_set (all_filled counts packings) (all_filled counts []) core (filled most packed)
+            (all_filled_got counts packings core most packed of_platform got) (omega (arith, l, m))
+        ∙ ap (λ i. mixed i (all_filled counts packings) (all_filled counts [])) (sym step)
+
+  pub whole_filled : core ≡ length counts → entries ≡ all_filled counts packings
+  whole_filled last =
+      let n = length_all_filled counts packings in let m = length_all_filled counts [] in
+      is ∙ ap (λ i. mixed i (all_filled counts packings) (all_filled counts [])) (last ∙ sym n)
+      ∙ mixed_all (all_filled counts packings) (all_filled counts []) (n ∙ sym m)

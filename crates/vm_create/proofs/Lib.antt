@@ -4,3 +4,4 @@ pub mod Masks
 pub mod Safe
 pub mod Loaded
 pub mod Filled
+pub mod Started

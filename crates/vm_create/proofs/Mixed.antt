@@ -10,6 +10,12 @@ mixed_all [] (z ∷ zs) same = absurd (omega arith)
 mixed_all (y ∷ ys) [] same = absurd (omega arith)
 mixed_all (y ∷ ys) (z ∷ zs) same = ap (λ l. y ∷ l) (mixed_all ys zs (omega arith))
 
+pub length_mixed : {A : Type 0} (i : ℕ) (new old : List A) → i ≤ length new → i ≤ length old → length (mixed i new old) ≡ length old
+length_mixed zero new old low more = refl
+length_mixed (suc i) [] old low more = absurd (omega arith)
+length_mixed (suc i) (y ∷ ys) [] low more = absurd (omega arith)
+length_mixed (suc i) (y ∷ ys) (z ∷ zs) low more = ap suc (length_mixed i ys zs (omega arith) (omega arith))
+
 -- the element that comes next is still the old list's
 pub mixed_next : {A : Type 0} (new old : List A) (i : ℕ) (d : A) → i ≤ length new → i < length old → get_or (mixed i new old) i d ≡ get_or old i d
 mixed_next new old zero d low more = refl

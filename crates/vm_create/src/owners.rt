@@ -25,6 +25,10 @@ pub fn owner(config: &Config, core: u8) -> Option<&Vm>
 pub fn virtual_core(vm: &Vm, core: u8) -> Option<u8>
     ensures { result ≡ virtual_core (vm_data vm.now) core }
 {
-    let place = vm.cores.iter().position(|own| *own == core)?;
-    Some(place as u8)
+    for (place, own) in vm.cores.as_slice().iter().enumerate() {
+        if *own == core {
+            return Some(place as u8);
+        }
+    }
+    None
 }
