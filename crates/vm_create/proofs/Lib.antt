@@ -1,6 +1,6 @@
 pub mod Mixed
 pub mod Backed
-pub mod Masks
+pub mod EntryBits
 pub mod Safe
 pub mod Loaded
 pub mod Filled

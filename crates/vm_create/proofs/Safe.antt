@@ -35,7 +35,7 @@ use Rattle.mpu_packer.proofs.Owners.{class_granular}
 use Rattle.vm_create.specs.Shape.{shape_of}
 use Rattle.vm_create.specs.Boot.{IsPlanOf}
 use Rattle.vm_create.proofs.Backed.{IsBackedAs, backed}
-use Rattle.vm_create.proofs.Masks.{within_masks}
+use Rattle.vm_create.proofs.EntryBits.{within_masks}
 
 -- the only one that passes is the one that was kept
 one_passes : {A : Type 0} (p : A → Bool) (xs : List A) (kept : A) → filter p xs ≡ kept ∷ [] → (k : ℕ) (x : A) → slice_get xs k ≡ Some x
