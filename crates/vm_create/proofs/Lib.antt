@@ -1,4 +1,4 @@
 pub mod Pairs
 pub mod Fittable
 pub mod Masks
-pub mod Powers
+pub mod Numbered
