@@ -1,5 +1,5 @@
-//! Tests of the crates on configurations, over their public calls: a text is read, its rules are checked, and its cores are
-//! packed.
+//! Tests of the crates on configurations, over their public calls: a text is read, its rules are checked, its cores are
+//! packed, and the board that it asks for is shaped.
 //!
 //! The crate has no other code. Its tests stand apart from the crates that they try, since a crate with tests is proved
 //! twice.
@@ -19,5 +19,7 @@ mod rows;
 mod rules;
 #[cfg(test)]
 mod samples;
+#[cfg(test)]
+mod shapes;
 #[cfg(test)]
 mod vms;

@@ -1,3 +1,7 @@
+pub mod Pairs
+pub mod Fittable
+pub mod Masks
+pub mod Numbered
 pub mod Mixed
 pub mod Backed
 pub mod EntryBits

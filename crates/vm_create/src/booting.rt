@@ -10,11 +10,14 @@ ghost use Rattle.vm_create.specs.Boot.{ArePlans, FitRooms, IsFresh, IsPlanOf, al
 ghost use Rattle.vm_create.specs.Shape.{shape_of};
 
 use crate::owners::{owner, virtual_core};
+use crate::power::boot_powers;
+use arrayvec::ArrayVec;
 use bao_config::{Config, Vm};
 use bao_types::Region;
 use bao_wellformed::Checked;
 use board::Board;
 use mpu_packer::Plan;
+use vm_model::Power;
 
 /// Boots all VMs on a board that was just fitted with their configuration's shape: each image is loaded at its VM's place,
 /// each core has its packing, and the first core of each VM is about to run at the VM's start. It answers the power of
@@ -24,16 +27,18 @@ pub fn boot<B: Board>(
     checked: &Checked,
     plans: &[Plan],
     images: &[Vec<u8>],
-)
+) -> ArrayVec<Power, 8>
     requires fresh { IsFresh (checked_data checked.now) (B.state board.old) }
     requires plans { ArePlans (checked_data checked.now) plans.now }
     requires images { FitRooms (checked_data checked.now) (map (λ image. image.items) images.now) }
+    ensures powers { result.items ≡ boot_powers (checked_data checked.now) }
     ensures board { B.state board.new
         ≡ booted (checked_data checked.now) (packings_of plans.now) (map (λ image. image.items) images.now) (B.state board.old) }
 {
     load_images(board, checked, images);
     set_entries(board, checked, plans);
     start_cores(board, checked);
+    boot_powers(checked)
 }
 
 /// Loads each image at its VM's place.

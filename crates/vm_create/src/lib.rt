@@ -5,6 +5,10 @@
 
 pub use booting::boot;
 pub use owners::{owner, virtual_core};
+pub use power::boot_powers;
+pub use shape::shape_for;
 
 mod booting;
 mod owners;
+mod power;
+mod shape;

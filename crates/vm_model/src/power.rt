@@ -1,6 +1,7 @@
 /// Whether a core runs.
-#[derive(Clone, Copy, Debug, PartialEq, Eq)]
+#[derive(Clone, Copy, Debug, Default, PartialEq, Eq)]
 pub enum Power {
     On,
+    #[default]
     Off,
 }
