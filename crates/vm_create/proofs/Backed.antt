@@ -1,8 +1,8 @@
 -- A byte that a map gives is memory in use, or a port's.
-use Rattle.std.proofs.Common.{◌≡◌, ℕ, zero, suc, ◌+◌, ◌<◌, ◌==◌, Bool, true, false, cond, ◌||◌, List, [], ◌∷◌, ◌++◌, map, filter_map, reverse, find, length, get_or, slice_get, All, Option, Some, None, IfSome, option_map, refl, subst, sym, ap, ◌∙◌, arith}
+use Rattle.std.proofs.Common.{◌≡◌, ℕ, zero, suc, ◌==◌, Bool, true, false, cond, ◌||◌, List, [], ◌∷◌, ◌++◌, map, filter_map, reverse, find, slice_get, All, Some, IfSome, refl, ap, ◌∙◌}
 use Rattle.std.specs.Prelude.{IsTrue, ⊤}
 use Rattle.std.specs.List.{flat_map, list_any}
-use Rattle.std.proofs.lemmas.List.Elements.{All-append, All-cons, All-head, All-tail, All-map, All-nil, All-weaker}
+use Rattle.std.proofs.lemmas.List.Elements.{All-append, All-head, All-tail, All-map}
 use Rattle.std.proofs.lemmas.List.Folds.{list_any-append, list_any_at}
 use Rattle.bao_types.specs.declared.range.ByteRange.{ByteRange}
 use Rattle.bao_types.specs.ByteRange.{is_in_one, is_within}
@@ -17,7 +17,7 @@ use Rattle.bao_wellformed.specs.Laws.{IsVm}
 use Rattle.bao_wellformed.proofs.Bytes.{all_reversed}
 use Rattle.bao_wellformed.proofs.Fits.{found_fits, got_fits, made_fits, picked_fit}
 use Rattle.board.specs.Machine.{is_port, is_used}
-use Rattle.vm_create.specs.Shape.{port_spot, shape_of, used_ranges}
+use Rattle.vm_create.specs.Shape.{port_spot, shape_of}
 
 -- what a byte of this kind is on the board
 abbrev pub IsBackedAs : ConfigData → ℕ → ℕ → Kind → Type 0

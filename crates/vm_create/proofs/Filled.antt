@@ -82,7 +82,7 @@ take_whole [] (suc i) same = refl
 take_whole (x ∷ xs) zero same = absurd (omega arith)
 take_whole (x ∷ xs) (suc i) same = ap (λ rest. x ∷ rest) (take_whole xs i (omega arith))
 
-length_places : {A B : Type 0} (f : ℕ × A → B) (from : ℕ) (xs : List A) → length (map f (enumerate_from from xs)) ≡ length xs
+pub length_places : {A B : Type 0} (f : ℕ × A → B) (from : ℕ) (xs : List A) → length (map f (enumerate_from from xs)) ≡ length xs
 length_places f from [] = refl
 length_places f from (x ∷ xs) = ap suc (length_places f (from + 1) xs)
 
@@ -95,7 +95,7 @@ with_entries m entries = record m { entries = entries }
 
 -- a core's own entries while they are set
 module _ (before entries : List (List Region)) (core count i : ℕ) (packed : List Region) (low : core < length before) (fits : length packed ≤ count)
-      (is : entries ≡ set before core (filled count (take i packed))) where
+    (is : entries ≡ set before core (filled count (take i packed))) where
   own_entries : get_or entries core [] ≡ filled count (take i packed)
   own_entries = ap (λ all. get_or all core []) is ∙ get_or-set_same before core (filled count (take i packed)) [] low
 
@@ -142,7 +142,7 @@ module _ (counts : List ℕ) (packings entries : List (List Region)) (core : ℕ
         ap (λ n. set entries core (filled n packed)) next_count
         ∙ ap (λ all. set all core (filled most packed)) is
         ∙ mixed_set (all_filled counts packings) (all_filled counts []) core (filled most packed)
-            (all_filled_got counts packings core most packed of_platform got) (omega (arith, l, m))
+        (all_filled_got counts packings core most packed of_platform got) (omega (arith, l, m))
         ∙ ap (λ i. mixed i (all_filled counts packings) (all_filled counts [])) (sym step)
 
   pub whole_filled : core ≡ length counts → entries ≡ all_filled counts packings

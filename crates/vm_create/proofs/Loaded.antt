@@ -1,5 +1,5 @@
 -- The bytes of an image are in use, and one more image is loaded over the later ones.
-use Rattle.std.proofs.Common.{◌≡◌, ℕ, zero, suc, ◌+◌, ◌<◌, ◌≤◌, true, false, List, [], ◌∷◌, drop, length, map, get_or, slice_get, Some, refl, sym, subst, ap, ◌∙◌, arith}
+use Rattle.std.proofs.Common.{◌≡◌, ℕ, zero, suc, ◌<◌, ◌≤◌, false, List, [], ◌∷◌, drop, length, map, get_or, slice_get, Some, refl, sym, subst, ap, ◌∙◌, arith}
 use Rattle.std.specs.Prelude.{IsTrue}
 use Rattle.std.proofs.lemmas.List.{length-map}
 use Rattle.std.proofs.lemmas.Option.{slice_get_read}
@@ -60,11 +60,11 @@ boot_bytes_none (vm ∷ vms) (suc n) (i ∷ images) same = boot_bytes_none vms n
 
 -- a turn's VM is that of the configuration, and its image that of the list
 module _ {V : Type 0} (items : V → List ℕ) (cfg : ConfigData) (config : Config) (vms : List Vm) (images : List V) (same : config_data config ≡ cfg)
-      (from : vms ≡ config.vms.items) (rooms : FitRooms cfg (map items images)) where
+    (from : vms ≡ config.vms.items) (rooms : FitRooms cfg (map items images)) where
   pub turn_vm : (v : ℕ) (vm : Vm) → v < length images → vm ≡ get_or vms v vm → slice_get cfg.vms v ≡ Some (vm_data vm)
   turn_vm v vm low is =
       let long : length vms ≡ length cfg.vms =
-          ap length from ∙ sym (length-map config.vms.items vm_data) ∙ ap (λ (cfg : ConfigData). length cfg.vms) same in
+      ap length from ∙ sym (length-map config.vms.items vm_data) ∙ ap (λ (cfg : ConfigData). length cfg.vms) same in
       vm_at cfg config vms v vm same from (omega (arith, low, long, rooms.count, length-map images items)) is
 
   pub turn_image : (v : ℕ) (image : V) → v < length images → image ≡ get_or images v image → slice_get (map items images) v ≡ Some (items image)

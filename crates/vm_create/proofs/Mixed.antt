@@ -1,5 +1,5 @@
 -- A list that is set one element after another: the first ones are already the new list's.
-use Rattle.std.proofs.Common.{◌≡◌, ℕ, zero, suc, ◌+◌, ◌<◌, ◌≤◌, List, [], ◌∷◌, ◌++◌, length, take, drop, set, get_or, slice_get, Some, refl, sym, ap, ◌∙◌, arith}
+use Rattle.std.proofs.Common.{◌≡◌, ℕ, zero, suc, ◌<◌, ◌≤◌, List, [], ◌∷◌, ◌++◌, length, take, drop, set, get_or, slice_get, Some, refl, sym, ap, ◌∙◌, arith}
 
 abbrev pub mixed : {A : Type 0} → ℕ → List A → List A → List A
 mixed i new old = take i new ++ drop i old

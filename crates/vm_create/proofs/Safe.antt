@@ -1,5 +1,5 @@
 -- The entries of a plan give a guest memory in use and ports alone, and have no bit outside their fields.
-use Rattle.std.proofs.Common.{◌≡◌, ◌≢◌, ℕ, zero, suc, ◌+◌, ◌-◌, ◌<◌, ◌≤◌, ◌^◌, ◌==◌, Bool, true, false, cond, ◌&&◌, ◌⊎◌, inl, inr, List, [], ◌∷◌, map, filter, find, reverse, length, get_or, slice_get, All, Option, Some, None, refl, subst, sym, ap, ◌∙◌, arith}
+use Rattle.std.proofs.Common.{◌≡◌, ℕ, zero, suc, ◌-◌, ◌<◌, ◌≤◌, ◌^◌, Bool, true, false, cond, ◌&&◌, ◌⊎◌, inl, inr, List, [], ◌∷◌, filter, find, reverse, get_or, slice_get, All, Option, Some, None, refl, subst, sym, ap, ◌∙◌, arith}
 use Rattle.std.specs.Prelude.{IsTrue, if◌then◌else◌}
 use Rattle.std.proofs.lemmas.Bool.{cases_lt, eq-eqb, false≢true}
 use Rattle.std.proofs.lemmas.Bool.Decides.{nat_tests}
@@ -10,14 +10,13 @@ use Rattle.bao_types.specs.declared.access.Class.TheVariants.{Nothing, Hyp, Gues
 use Rattle.bao_types.specs.declared.region.Region.{Region}
 use Rattle.bao_types.specs.Bits.{field}
 use Rattle.bao_types.specs.ByteRange.{end, is_within}
-use Rattle.bao_types.specs.Region.{IsWithinMasks, access_permission, covers, is_enabled, is_execute_never, is_match, matching_regions}
+use Rattle.bao_types.specs.Region.{IsWithinMasks, access_permission, covers, is_execute_never, is_match, matching_regions}
 use Rattle.bao_types.proofs.Ranges.{is_within-between}
 use Rattle.bao_config.specs.Data.{ConfigData, VmData}
 use Rattle.bao_config.specs.Fits.{ConfigFits}
 use Rattle.bao_wellformed.specs.declared.map.Kind.{Kind}
 use Rattle.bao_wellformed.specs.declared.map.Kind.TheVariants.{Ram, Port, Window, Hole}
 use Rattle.bao_wellformed.specs.declared.map.MapEntry.{MapEntry}
-use Rattle.bao_wellformed.specs.Laws.{IsVm}
 use Rattle.bao_wellformed.specs.Map.{class_of, grant, guest_class, has_core, kind_at, kind_of, map_of, owner}
 use Rattle.bao_wellformed.specs.WellFormed.{IsWellFormed}
 use Rattle.bao_wellformed.proofs.Bytes.{all_reversed}
@@ -28,12 +27,11 @@ use Rattle.region_list.specs.Layers.{AreInSpace, IsInSpace}
 use Rattle.region_list.specs.Runs.{AreRunsFrom, IsMaximalRun}
 use Rattle.board.specs.Machine.{IsSafeEntry, is_port, is_used}
 use Rattle.mpu_packer.specs.declared.entries.Plan.{Plan}
-use Rattle.mpu_packer.specs.Packing.{HasBits, IsRealised, Realises, entry_of, execute_never_of}
+use Rattle.mpu_packer.specs.Packing.{HasBits, IsRealised, Realises, entry_of}
 use Rattle.mpu_packer.specs.Plan.{IsPacking}
-use Rattle.mpu_packer.proofs.Granules.{IsAligned, all_aligned}
+use Rattle.mpu_packer.proofs.Granules.{all_aligned}
 use Rattle.mpu_packer.proofs.Owners.{class_granular}
 use Rattle.vm_create.specs.Shape.{shape_of}
-use Rattle.vm_create.specs.Boot.{IsPlanOf}
 use Rattle.vm_create.proofs.Backed.{IsBackedAs, backed}
 use Rattle.vm_create.proofs.EntryBits.{within_masks}
 
@@ -82,7 +80,7 @@ module _ (cfg : ConfigData) (core : ℕ) (well_formed : IsWellFormed cfg) where
       of_guest (Some vm) e =
           let place = found_got (has_core core) cfg.vms vm e in
           let outside = All-weaker (λ (entry : MapEntry). end entry.range ≤ 2 ^ 48) (λ (entry : MapEntry). is_within entry.range at ≡ false)
-              beyond_range (map_of cfg vm) (maps_in_space cfg place.0 vm well_formed place.1) in
+          beyond_range (map_of cfg vm) (maps_in_space cfg place.0 vm well_formed place.1) in
           ap (λ found. grant (kind_of found))
           (none_found (λ entry. is_within entry.range at) (reverse (map_of cfg vm))
           (all_reversed (λ (entry : MapEntry). is_within entry.range at ≡ false) (map_of cfg vm) outside))

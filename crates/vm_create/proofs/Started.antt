@@ -1,5 +1,5 @@
 -- The cores while they are started: the first of each VM begins, and all others stay reset.
-use Rattle.std.proofs.Common.{◌≡◌, ℕ, zero, suc, ◌+◌, ◌<◌, List, [], ◌∷◌, map, set, get_or, slice_get, length, Option, None, Some, unwrap_or, refl, sym, ap, ◌∙◌, arith}
+use Rattle.std.proofs.Common.{◌≡◌, ℕ, zero, suc, ◌<◌, List, map, set, get_or, slice_get, length, Option, None, Some, unwrap_or, refl, sym, ap, ◌∙◌}
 use Rattle.std.specs.List.{enumerate_from}
 use Rattle.std.proofs.lemmas.Option.{get_or_from_slice_get, slice_get-get_or, slice_get_within}
 use Rattle.a64_state.specs.Core.{CoreData}
@@ -12,6 +12,7 @@ use Rattle.board.specs.Machine.{Machine, core_started}
 use Rattle.vm_model.specs.Boot.{boot_core, boot_cores, core_of_vm, virtual_core}
 use Rattle.vm_create.specs.Boot.{start_of, start_of_vm}
 use Rattle.vm_create.specs.Shape.{affinity_of, core_place, shape_of}
+use Rattle.vm_create.proofs.Filled.{length_places}
 use Rattle.vm_create.proofs.Mixed.{mixed, mixed_same, mixed_set}
 
 -- a reset core that begins at pc with 0 in X0
@@ -39,19 +40,9 @@ waiting_core (Some vm) core e = waiting_vm vm (virtual_core vm core) e
 abbrev pub with_cores : Machine → List CoreData → Machine
 with_cores m cores = record m { cores = cores }
 
-pub length_boot_cores : (cfg : ConfigData) (from : ℕ) (counts : List ℕ)
-    → length (map (λ place. boot_core (owner cfg place.0) place.0) (enumerate_from from counts)) ≡ length counts
-length_boot_cores cfg from [] = refl
-length_boot_cores cfg from (count ∷ counts) = ap suc (length_boot_cores cfg (from + 1) counts)
-
-length_places : (cfg : ConfigData) (from : ℕ) (counts : List ℕ)
-    → length (map (λ place. core_place cfg place.0 place.1) (enumerate_from from counts)) ≡ length counts
-length_places cfg from [] = refl
-length_places cfg from (count ∷ counts) = ap suc (length_places cfg (from + 1) counts)
-
 module _ (cfg : ConfigData) (events : ℕ) (shape : ShapeData) (is_shape : shape ≡ shape_of cfg events) where
   pub length_cores : length shape.cores ≡ length cfg.platform.cores
-  length_cores = ap (λ (shape : ShapeData). length shape.cores) is_shape ∙ length_places cfg 0 cfg.platform.cores
+  length_cores = ap (λ (shape : ShapeData). length shape.cores) is_shape ∙ length_places (λ place. core_place cfg place.0 place.1) 0 cfg.platform.cores
 
   module _ (core : ℕ) (low : core < length cfg.platform.cores) where
     place_got : slice_get shape.cores core ≡ Some (core_place cfg core (get_or cfg.platform.cores core 0))

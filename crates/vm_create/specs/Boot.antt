@@ -3,7 +3,7 @@ use Rattle.std.specs.Prelude.{◌≡◌, ℕ, zero, suc, ◌-◌, ◌≤◌, Lis
 use Rattle.bao_types.specs.declared.region.Region.{Region}
 use Rattle.bao_types.specs.Region.{no_region}
 use Rattle.bao_config.specs.Data.{ConfigData, VmData}
-use Rattle.bao_wellformed.specs.Map.{owner, class_of}
+use Rattle.bao_wellformed.specs.Map.{class_of}
 use Rattle.board.specs.Machine.{Machine, fitted_with}
 use Rattle.mpu_packer.specs.declared.entries.Plan.{Plan}
 use Rattle.mpu_packer.specs.Packing.{Realises}
@@ -35,7 +35,7 @@ pub record FitRooms (cfg : ConfigData) (images : List (List ℕ)) : Type 0 where
 abbrev pub filled : ℕ → List Region → List Region
 filled count packed = packed ++ replicate (count - length packed) no_region
 
--- of all cores
+-- of all cores; one that has no packing yet has zero entries alone
 abbrev pub all_filled : List ℕ → List (List Region) → List (List Region)
 all_filled [] packings = []
 all_filled (count ∷ counts) [] = filled count [] ∷ all_filled counts []
@@ -45,6 +45,7 @@ all_filled (count ∷ counts) (packed ∷ packings) = filled count packed ∷ al
 abbrev pub packings_of : List Plan → List (List Region)
 packings_of plans = map (λ plan. plan.entries.items) plans
 
+-- where the core with this virtual number begins
 abbrev pub start_of_vm : VmData → Option ℕ → Option ℕ
 start_of_vm vm None = None
 start_of_vm vm (Some zero) = Some vm.start

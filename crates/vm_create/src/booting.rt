@@ -1,19 +1,16 @@
 ghost use Rattle.std.specs.Prelude.{◌≡◌, ◌≤◌, ◌<◌, true, [], length, map, slice_set};
-ghost use Rattle.bao_types.specs.Region.{no_region};
 ghost use Rattle.bao_config.specs.Config.{config_data};
-ghost use Rattle.bao_config.specs.Data.{vm_data};
 ghost use Rattle.bao_wellformed.specs.Checked.{checked_data};
 ghost use Rattle.bao_wellformed.specs.Map.{owner};
-ghost use Rattle.board.specs.Machine.{AreUsed, entries_at, fitted_with};
-ghost use Rattle.vm_model.specs.Boot.{boot_bytes, boot_core, boot_cores, boot_powers};
+ghost use Rattle.board.specs.Machine.{entries_at, fitted_with};
+ghost use Rattle.vm_model.specs.Boot.{boot_bytes, boot_cores, boot_powers};
 ghost use Rattle.vm_create.specs.Boot.{ArePlans, FitRooms, IsFresh, IsPlanOf, all_filled, booted, filled, packings_of, start_of};
 ghost use Rattle.vm_create.specs.Shape.{shape_of};
 
 use crate::owners::{owner, virtual_core};
 use crate::power::boot_powers;
 use arrayvec::ArrayVec;
-use bao_config::{Config, Vm};
-use bao_types::Region;
+use bao_config::Config;
 use bao_wellformed::Checked;
 use board::Board;
 use mpu_packer::Plan;
@@ -48,7 +45,7 @@ fn load_images<B: Board>(board: &mut B, checked: &Checked, images: &[Vec<u8>])
     ensures { let cfg = checked_data checked.now in
         B.state board.new ≡ record (B.state board.old) { bytes = boot_bytes cfg.vms (map (λ image. image.items) images.now) } }
 {
-    // The images don't overlap, so the order is free; the model begins with the last one.
+    // The model lays the first image over the later ones.
     let vms = checked.config().vms.as_slice();
     for v in (0..images.len()).rev() {
         board.load(vms[v].place.base, images[v].as_slice());

@@ -1,4 +1,4 @@
-use Rattle.std.proofs.Common.{◌≡◌, ◌-◌, ◌<◌, ℕ, suc, drop, get_or, length, map, sym, ap, ◌∙◌, arith}
+use Rattle.std.proofs.Common.{◌≡◌, ◌-◌, ◌<◌, suc, drop, get_or, length, map, sym, ap, ◌∙◌, arith}
 use Rattle.std.proofs.lemmas.List.{length-map}
 use Rattle.bao_config.specs.declared.config.Vm.{Vm}
 use Rattle.bao_wellformed.specs.Checked.{checked_data}
@@ -28,8 +28,8 @@ load-requires-clause-used g c =
     let low : c.loop-v.v - 1 < length c.args.images.now = omega (arith, c.loop-v-test.true, c.loop-v.auto.v) in
     let shape = ap (λ (m : Machine). m.shape) c.loop-v.invariant ∙ ap (λ (m : Machine). m.shape) c.requires.fresh in
     let used = turn_used (λ image. image.items) cfg c.config.result.now c.as_slice-vms.result.now c.args.images.now c.config.ensures
-        c.as_slice-vms.ensures.value c.requires.images old.shape.events (c.loop-v.v - 1) c.index-vms-v.result c.index-images-v.result
-        c.args.checked.now.well_formed low c.index-vms-v.is c.index-images-v.is in
+    c.as_slice-vms.ensures.value c.requires.images old.shape.events (c.loop-v.v - 1) c.index-vms-v.result c.index-images-v.result
+    c.args.checked.now.well_formed low c.index-vms-v.is c.index-images-v.is in
     let vm = get_or c.as_slice-vms.result.now (c.loop-v.v - 1) c.index-vms-v.result in
     are_used (g.B.Board.state c.loop-v.board).shape (shape_of cfg old.shape.events) vm.place.base c.index-vms-v.result.place.base
     (length c.as_slice.result.now) (length c.index-images-v.result.items) shape (ap (λ (vm : Vm). vm.place.base) (sym c.index-vms-v.is))

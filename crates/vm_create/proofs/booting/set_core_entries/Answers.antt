@@ -1,4 +1,4 @@
-use Rattle.std.proofs.Common.{◌≡◌, ◌<◌, ◌+◌, [], All, length, take, set, get_or, Some, slice_get, refl, sym, subst, ap, ◌∙◌, arith}
+use Rattle.std.proofs.Common.{◌<◌, ◌+◌, [], All, length, set, get_or, slice_get, sym, subst, ap, ◌∙◌, arith}
 use Rattle.std.proofs.lemmas.List.{set-get_or}
 use Rattle.std.proofs.lemmas.Option.{slice_get-get_or}
 use Rattle.bao_types.specs.Region.{IsWithinMasks, no_region}
@@ -59,7 +59,7 @@ loop-index-preserved g c =
     let entry = get_or c.deref-entry-items.result.now c.loop-index.index no_region in
     let packed = c.args.plan.now.entries.items in
     let got = ap (λ entries. slice_get entries c.loop-index.index) (sym c.deref-entry-items.ensures.0)
-        ∙ slice_get-get_or c.deref-entry-items.result.now c.loop-index.index no_region c.loop-index-test.true in
+    ∙ slice_get-get_or c.deref-entry-items.result.now c.loop-index.index no_region c.loop-index-test.true in
     c.set_entry.ensures
     ∙ ap (λ (m : Machine). with_entries m (set now.entries c.args.core (set (get_or now.entries c.args.core []) c.loop-index.index entry)))
     c.loop-index.invariant

@@ -1,4 +1,4 @@
-use Rattle.std.proofs.Common.{◌≡◌, ◌<◌, ◌≤◌, ◌+◌, [], length, map, replicate, set, get_or, refl, sym, ap, ◌∙◌, arith}
+use Rattle.std.proofs.Common.{◌+◌, [], length, map, replicate, set, refl, sym, ap, ◌∙◌, arith}
 use Rattle.std.proofs.lemmas.List.{length-map}
 use Rattle.std.proofs.lemmas.Option.{slice_get_read}
 use Rattle.bao_types.specs.Region.{no_region}
@@ -23,7 +23,7 @@ loop-core-init g c =
 pub set_core_entries-requires-clause-core : goal.set_core_entries-requires-clause-core
 set_core_entries-requires-clause-core g c =
     let cfg = checked_data c.args.checked.now in let own = c.requires.plans.each c.loop-core.core c.index-plans-core.result
-        (slice_get_read c.args.plans.now (length c.args.plans.now) c.loop-core.core c.index-plans-core.result refl c.loop-core-test.true c.index-plans-core.is) in
+    (slice_get_read c.args.plans.now (length c.args.plans.now) c.loop-core.core c.index-plans-core.result refl c.loop-core-test.true c.index-plans-core.is) in
     entries_within cfg.platform.cores (packings_of c.args.plans.now) (g.B.Board.state c.loop-core.board).entries c.loop-core.core
     (ap (λ (m : Machine). m.entries) c.loop-core.invariant) own.packing.most own.packing.of_platform
 
@@ -35,7 +35,7 @@ set_core_entries-requires-clause-plan g c =
 pub set_core_entries-requires-clause-zero : goal.set_core_entries-requires-clause-zero
 set_core_entries-requires-clause-zero g c =
     let cfg = checked_data c.args.checked.now in let own = c.requires.plans.each c.loop-core.core c.index-plans-core.result
-        (slice_get_read c.args.plans.now (length c.args.plans.now) c.loop-core.core c.index-plans-core.result refl c.loop-core-test.true c.index-plans-core.is) in
+    (slice_get_read c.args.plans.now (length c.args.plans.now) c.loop-core.core c.index-plans-core.result refl c.loop-core-test.true c.index-plans-core.is) in
     let is = ap (λ (m : Machine). m.entries) c.loop-core.invariant in
     let now = g.B.Board.state c.loop-core.board in
     next_none cfg.platform.cores (packings_of c.args.plans.now) now.entries c.loop-core.core is own.packing.most own.packing.of_platform
@@ -45,7 +45,7 @@ set_core_entries-requires-clause-zero g c =
 pub set_core_entries-requires-clause-room : goal.set_core_entries-requires-clause-room
 set_core_entries-requires-clause-room g c =
     let cfg = checked_data c.args.checked.now in let own = c.requires.plans.each c.loop-core.core c.index-plans-core.result
-        (slice_get_read c.args.plans.now (length c.args.plans.now) c.loop-core.core c.index-plans-core.result refl c.loop-core-test.true c.index-plans-core.is) in
+    (slice_get_read c.args.plans.now (length c.args.plans.now) c.loop-core.core c.index-plans-core.result refl c.loop-core-test.true c.index-plans-core.is) in
     let is = ap (λ (m : Machine). m.entries) c.loop-core.invariant in
     let now = g.B.Board.state c.loop-core.board in
     omega (

@@ -1,15 +1,15 @@
-use Rattle.std.proofs.Common.{◌≡◌, ◌<◌, ◌+◌, suc, length, map, set, Some, None, sym, ap, ◌∙◌, arith}
+use Rattle.std.proofs.Common.{◌≡◌, ◌<◌, ◌+◌, length, map, set, sym, ap, ◌∙◌, arith}
 use Rattle.std.proofs.lemmas.List.{length-map}
-use Rattle.bao_config.specs.Config.{config_data}
 use Rattle.bao_config.specs.Data.{ConfigData}
 use Rattle.bao_wellformed.specs.Checked.{checked_data}
 use Rattle.bao_wellformed.specs.Map.{owner}
 use Rattle.board.specs.Machine.{Machine, core_started}
 use Rattle.a64_state.specs.Registers.{reset_core}
-use Rattle.vm_model.specs.Boot.{boot_cores}
+use Rattle.vm_model.specs.Boot.{boot_core, boot_cores}
 use Rattle.vm_create.specs.Boot.{start_of}
+use Rattle.vm_create.proofs.Filled.{length_places}
 use Rattle.vm_create.proofs.Mixed.{mixed, mixed_all}
-use Rattle.vm_create.proofs.Started.{length_boot_cores, length_cores, starts, waits, with_cores}
+use Rattle.vm_create.proofs.Started.{length_cores, starts, waits, with_cores}
 use Rattle.vm_create.proofs.booting.start_cores.Goals as goal
 use Rattle.vm_create.proofs.booting.start_cores.Goals.{in-Some, in_default}
 
@@ -31,11 +31,11 @@ loop-core-preserved g c =
     let cfg = checked_data c.args.checked.now in let core = c.loop-core.core in
     let shape = ap (λ (m : Machine). m.shape) c.loop-core.invariant ∙ c.requires.shape in
     let low : core < length cfg.platform.cores =
-        omega (arith, ap (λ (cfg : ConfigData). length cfg.platform.cores) c.config-config.ensures, c.len-core-end.ensures.value, c.loop-core-test.true) in
+    omega (arith, ap (λ (cfg : ConfigData). length cfg.platform.cores) c.config-config.ensures, c.len-core-end.ensures.value, c.loop-core-test.true) in
     let begins = ap (λ (cfg : ConfigData). start_of (owner cfg core) core) (sym c.config-config.ensures) ∙ sym c.start_of.ensures in
     let reset = c.requires.reset ∙ ap (λ (m : Machine). map (λ place. reset_core place.affinity) m.shape.cores) (sym c.loop-core.invariant) in
     elim c.match-start_of.branch [
-      in-Some w ↦
+      | in-Some w ↦
           ap g.B.Board.state w.board-is
           ∙ w.reset_core.ensures
           ∙ ap (λ (m : Machine). with_cores m (set now.cores core (core_started now.shape core w.in-Some.start 0))) c.loop-core.invariant
@@ -53,7 +53,7 @@ returns g c =
     let old = g.B.Board.state c.args.board.now in let cfg = checked_data c.args.checked.now in
     let counts = cfg.platform.cores in
     let last = ap (λ (cfg : ConfigData). length cfg.platform.cores) c.config-config.ensures in
-    let boots = length_boot_cores cfg 0 counts in
+    let boots = length_places (λ place. boot_core (owner cfg place.0) place.0) 0 counts in
     let reset = length_cores cfg old.shape.events old.shape c.requires.shape in
     c.loop-core.invariant
     ∙ ap (λ i. with_cores old (mixed i (boot_cores cfg) old.cores))
