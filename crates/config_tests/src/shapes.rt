@@ -5,7 +5,6 @@ use bao_types::Shape;
 use bao_wellformed::Checked;
 use std::alloc::{AllocError, Global};
 use std::process::Abort;
-use std::test::Fail;
 use vm_create::{boot_powers, shape_for};
 use vm_model::Power;
 

@@ -1,7 +1,7 @@
 -- The shape that a well-formed configuration asks for is one that a board can be fitted with.
-use Rattle.std.proofs.Common.{◌≡◌, ℕ, zero, suc, ◌+◌, ◌<◌, ◌≤◌, Bool, true, false, not, List, [], ◌∷◌, ◌++◌, map, filter, length, get_or, slice_get, All, Some, IfSome, nat_lt, cond, sum, sum_by, refl, subst, ap, ◌∙◌, arith}
+use Rattle.std.proofs.Common.{◌≡◌, ℕ, suc, ◌+◌, ◌≤◌, Bool, true, false, not, List, [], ◌∷◌, ◌++◌, map, filter, length, get_or, slice_get, All, Some, nat_lt, cond, sum, sum_by, refl, ap, ◌∙◌, arith}
 use Rattle.std.specs.Prelude.{IsTrue, IsFalse}
-use Rattle.std.specs.List.{AllPairs, enumerate_from, flat_map, list_any}
+use Rattle.std.specs.List.{AllPairs, enumerate_from, flat_map}
 use Rattle.std.proofs.lemmas.Bool.{not-false, ltb-false}
 use Rattle.std.proofs.lemmas.Bool.Decides.{nat_tests}
 use Rattle.std.proofs.lemmas.List.{length-map}

@@ -1,4 +1,11 @@
 pub mod Pairs
 pub mod Fittable
 pub mod Masks
-pub mod Powers
+pub mod Numbered
+pub mod Mixed
+pub mod Backed
+pub mod EntryBits
+pub mod Safe
+pub mod Loaded
+pub mod Filled
+pub mod Started

@@ -1,9 +1,9 @@
 -- The boot of all VMs: what it is given, and how it leaves the board.
-use Rattle.std.specs.Prelude.{◌≡◌, ℕ, ◌-◌, ◌==◌, ◌≤◌, if◌then◌else◌, Bool, false, List, [], ◌∷◌, ◌++◌, length, map, replicate, slice_get, Option, None, Some}
+use Rattle.std.specs.Prelude.{◌≡◌, ℕ, zero, suc, ◌-◌, ◌≤◌, List, [], ◌∷◌, ◌++◌, length, map, replicate, slice_get, Option, None, Some}
 use Rattle.bao_types.specs.declared.region.Region.{Region}
 use Rattle.bao_types.specs.Region.{no_region}
 use Rattle.bao_config.specs.Data.{ConfigData, VmData}
-use Rattle.bao_wellformed.specs.Map.{owner, class_of}
+use Rattle.bao_wellformed.specs.Map.{class_of}
 use Rattle.board.specs.Machine.{Machine, fitted_with}
 use Rattle.mpu_packer.specs.declared.entries.Plan.{Plan}
 use Rattle.mpu_packer.specs.Packing.{Realises}
@@ -30,7 +30,7 @@ pub record ArePlans (cfg : ConfigData) (plans : List Plan) : Type 0 where
 abbrev pub filled : ℕ → List Region → List Region
 filled count packed = packed ++ replicate (count - length packed) no_region
 
--- of all cores
+-- of all cores; one that has no packing yet has zero entries alone
 abbrev pub all_filled : List ℕ → List (List Region) → List (List Region)
 all_filled [] packings = []
 all_filled (count ∷ counts) [] = filled count [] ∷ all_filled counts []
@@ -40,14 +40,16 @@ all_filled (count ∷ counts) (packed ∷ packings) = filled count packed ∷ al
 abbrev pub packings_of : List Plan → List (List Region)
 packings_of plans = map (λ plan. plan.entries.items) plans
 
+-- where the core with this virtual number begins
+abbrev pub start_of_vm : VmData → Option ℕ → Option ℕ
+start_of_vm vm None = None
+start_of_vm vm (Some zero) = Some vm.start
+start_of_vm vm (Some (suc j)) = None
+
 -- where a core begins, if it is the first of its VM
 abbrev pub start_of : Option VmData → ℕ → Option ℕ
 start_of None core = None
-start_of (Some vm) core = if first_of (virtual_core vm core) then Some vm.start else None
-  where
-    first_of : Option ℕ → Bool
-    first_of None = false
-    first_of (Some j) = j == 0
+start_of (Some vm) core = start_of_vm vm (virtual_core vm core)
 
 -- all is loaded and set: the images, the entries, and the cores, of which the first of each VM is about to run
 abbrev pub booted : ConfigData → List (List Region) → List (List ℕ) → Machine → Machine

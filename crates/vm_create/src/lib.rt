@@ -3,12 +3,12 @@
 //! Nothing here takes memory. After the boot memory, cores and powers are those with which the model begins.
 #![tactic(auto)]
 
-// pub use boot::boot;
+pub use booting::boot;
 pub use owners::{owner, virtual_core};
 pub use power::boot_powers;
 pub use shape::shape_for;
 
-// mod boot;
+mod booting;
 mod owners;
 mod power;
 mod shape;

@@ -1,9 +1,9 @@
-use Rattle.std.proofs.Common.{◌≡◌, ◌<◌, ℕ, List, [], ◌∷◌, ◌++◌, length, arith, ap, ◌∙◌, rules}
+use Rattle.std.proofs.Common.{◌<◌, ℕ, List, [], ◌∷◌, ◌++◌, length, arith, ap, ◌∙◌, rules}
 use Rattle.bao_config.specs.Data.{ConfigData}
 use Rattle.bao_wellformed.specs.Checked.{checked_data}
 use Rattle.bao_wellformed.specs.Map.{owner}
 use Rattle.vm_model.specs.Boot.{boot_power, boot_powers}
-use Rattle.vm_create.proofs.Powers.{one_more}
+use Rattle.vm_create.proofs.Numbered.{one_more}
 use Rattle.vm_create.proofs.power.boot_powers.Goals as goal
 
 pub loop-core-preserved : goal.loop-core-preserved

@@ -1,4 +1,4 @@
-use Rattle.std.proofs.Common.{◌^◌, ◌%◌, get_or, arith}
+use Rattle.std.proofs.Common.{◌^◌, get_or, arith}
 use Rattle.std.proofs.Math.Nat.{mod-le}
 use Rattle.std.proofs.lemmas.List.Sums.{sum_by_more_le}
 use Rattle.vm_create.proofs.Masks.{bits_below}

@@ -1,4 +1,4 @@
-use Rattle.std.proofs.Common.{◌≡◌, ◌<◌, ℕ, List, All, slice_get, Some, refl, sym, subst, arith}
+use Rattle.std.proofs.Common.{◌<◌, All, sym, subst, arith}
 use Rattle.std.proofs.lemmas.List.Elements.{All-weaker}
 use Rattle.bao_config.specs.Bounds.{IsInBounds, core}
 use Rattle.bao_config.specs.Data.{vm_data}
