@@ -73,7 +73,7 @@ module _ (name schedule : List ℕ) where
   at_place None = file.Schedule
   at_place (Some v) = file.Image v
 
-  of_schedule : (b : Bool) → unwrap_or (option_map (λ f. f.0) (cond b (Some (file.Schedule, schedule)) None)) file.Schedule ≡ file.Schedule
+  of_schedule : (b : Bool) → unwrap_or (option_map (λ (f : Named). f.0) (cond b (Some (file.Schedule, schedule)) None)) file.Schedule ≡ file.Schedule
   of_schedule true = refl
   of_schedule false = refl
 
@@ -83,7 +83,7 @@ module _ (name schedule : List ℕ) where
   first_by_place v (vm ∷ vms) = by_test (same vm.image name) (first_by_place (v + 1) vms)
     where
       by_test : (b : Bool) → unwrap_or (first_named name (names (v + 1) vms)) file.Schedule ≡ at_place (position_from (λ vm. same vm.image name) (v + 1) vms)
-          → unwrap_or (option_map (λ f. f.0) (cond b (Some (file.Image v, vm.image)) (find (λ named. same named.1 name) (names (v + 1) vms)))) file.Schedule
+          → unwrap_or (option_map (λ (f : Named). f.0) (cond b (Some (file.Image v, vm.image)) (find (λ named. same named.1 name) (names (v + 1) vms)))) file.Schedule
           ≡ at_place (cond b (Some v) (position_from (λ vm. same vm.image name) (v + 1) vms))
       by_test true rest = refl
       by_test false rest = rest
@@ -98,7 +98,7 @@ module _ (name schedule : List ℕ) where
   first_is_config config cfg it = rw it refl
 
 -- a file whose name is among the names is found by it
-either : (b : Bool) (one : Named) (o : Option Named) → is_some (option_map (λ f. f.0) o) ≡ true
+either : (b : Bool) (one : Named) (o : Option Named) → is_some (option_map (λ (f : Named). f.0) o) ≡ true
     → is_some (option_map (λ (f : Named). f.0) (cond b (Some one) o)) ≡ true
 either true one o some = refl
 either false one o some = some
@@ -183,8 +183,8 @@ module _ (held : Option Files) (start now new : Blame) (config schedule : List �
       → id ≡ file.Image (length images) → limit ≡ image_limit vm
       → IfHeld o (λ files. (next : List (List ℕ) → Ruling) → rule_images files next 0 cfg.vms ≡ Refused (status.TooLong id limit))
   is_long None h long id limit here most = tt
-  is_long (Some files) h long id limit here most next =
-      long_image files next 0 cfg.vms images vm (length images) h is refl long
+  is_long (Some files) h long id limit here most =
+      λ next. long_image files next 0 cfg.vms images vm (length images) h is refl long
       ∙ ap (λ id. Refused (status.TooLong id (image_limit vm))) (sym here) ∙ ap (λ limit. Refused (status.TooLong id limit)) (sym most)
 
   as_told : (o : Option Files) (P : Option (List ℕ) → Type 0) → IfTold o vm.image P → IfHeld o (λ files. P (files vm.image))

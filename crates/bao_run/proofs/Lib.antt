@@ -1,4 +1,11 @@
+pub mod Realises
+pub mod Refines
 pub mod Numbers
 pub mod Lines
 pub mod Rules
 pub mod Fetches
+pub mod Fold
+pub mod Outcomes
+pub mod Alone
+pub mod Complete
+pub mod SureLemmas

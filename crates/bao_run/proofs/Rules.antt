@@ -89,7 +89,7 @@ module _ (files : Files) (name schedule : List ℕ) where
   missed next ends v [] [] come here first found =
       let it : file.Schedule ≡ first = found_now (same schedule name) here found in ends here [] ∙ ap Missing it
     where
-      found_now : (b : Bool) → b ≡ true → option_map (λ f. f.0) (cond b (Some (file.Schedule, schedule)) None) ≡ Some first → file.Schedule ≡ first
+      found_now : (b : Bool) → b ≡ true → option_map (λ (f : Named). f.0) (cond b (Some (file.Schedule, schedule)) None) ≡ Some first → file.Schedule ≡ first
       found_now true e found = cc
       found_now false e found = cc
   missed next ends v [] (image ∷ images) come here first found = absurd come
@@ -102,7 +102,7 @@ module _ (files : Files) (name schedule : List ℕ) where
           → (images : List (List ℕ)) → AreImages files vms images → IsNext vms images → first_named name (names (v + 1) vms) ≡ Some first
           → rule_images (lacking name files) next (v + 1) vms ≡ Missing first)
           → (images : List (List ℕ)) → AreImages files (vm ∷ vms) images → IsNext (vm ∷ vms) images
-          → option_map (λ f. f.0) (cond b (Some (file.Image v, vm.image)) (find (λ named. same named.1 name) (names (v + 1) vms))) ≡ Some first
+          → option_map (λ (f : Named). f.0) (cond b (Some (file.Image v, vm.image)) (find (λ named. same named.1 name) (names (v + 1) vms))) ≡ Some first
           → rule_image (λ image. rule_images (lacking name files) (λ images. next (image ∷ images)) (v + 1) vms) v vm (if b then None else files vm.image)
           ≡ Missing first
       by_test true is rest images come here found = cc

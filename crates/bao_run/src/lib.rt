@@ -6,9 +6,15 @@ mod config;
 mod fetch;
 mod images;
 mod input;
+mod machine;
+mod packing;
 mod reading;
+mod run;
 mod schedule;
+mod sure;
+mod top;
 mod words;
 
-pub use input::{read_check, read_run};
-pub use words::read_words;
+pub use packing::a_core_steps_as_in_the_model;
+pub use sure::complete_over_a_sure_shelf;
+pub use top::run_bao;

@@ -20,7 +20,7 @@ use Rattle.bao_wellformed.proofs.Places.{places_own}
 use Rattle.board.specs.Machine.{AreUsed, Machine, is_used, over}
 use Rattle.vm_model.specs.Boot.{boot_bytes}
 use Rattle.mpu_packer.proofs.Owners.{vm_at}
-use Rattle.vm_create.specs.Boot.{FitRooms}
+use Rattle.vm_model.specs.Apart.{FitRooms}
 use Rattle.vm_create.specs.Shape.{shape_of}
 use Rattle.vm_create.proofs.Backed.{IsBackedAs, backed}
 

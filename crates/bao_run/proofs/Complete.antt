@@ -1,0 +1,89 @@
+-- The contract of the top call follows from what its answer means.
+use Rattle.std.proofs.Common.{◌≡◌, ◌≢◌, ℕ, ◌<◌, refl, sym, ap, ◌∙◌, inl, inr, subst, arith}
+use Rattle.std.specs.Prelude.{Option, None, Some, ◌⊎◌}
+use Rattle.outside.specs.Faults.{risen}
+use Rattle.outside.specs.Sink.{grown}
+use Rattle.report.specs.declared.status.Part.TheVariants as part
+use Rattle.report.specs.declared.status.Status.{Status}
+use Rattle.report.specs.declared.status.Status.TheVariants as status
+use Rattle.bao_run.specs.Words.{Command, Run, Check, Unbuilt, Unknown, IsRun, IsCheck, command_of}
+use Rattle.bao_run.specs.Call.{Files, Call}
+use Rattle.bao_run.specs.Ruling.{Ruling, Refused, Missing, Shown, Accept, ruling}
+use Rattle.bao_run.specs.Input.{IfHeld, lacking}
+use Rattle.bao_run.specs.Outcome.{Outcome, IsIsolated, IsRuled, ForSomeInput}
+use Rattle.bao_run.specs.Answers.{Answers, IsReadWell, last_count, status_by, status_after}
+use Rattle.bao_run.proofs.Alone.{report-alone}
+
+-- a count below its last value that has risen is another
+risen-other : (before : ℕ) → before < last_count → risen before ≢ before
+risen-other before low same = omega arith
+
+held_fact : (held : Option Files) (files : Files) (P : Files → Type 0) → held ≡ Some files → IfHeld held P → P files
+held_fact held files P e h = let P' : Option Files → Type 0 = λ o. IfHeld o P in subst P' e h
+
+-- a run is no check
+not_both : (command : Command) → IsRun command → IsCheck command → ⊥
+not_both (Run config schedule) run check = check
+not_both (Check config) run check = run
+not_both Unbuilt run check = run
+not_both Unknown run check = run
+
+isolated : (call : Call) → Outcome call status.Done → IsRun (command_of call.words) → ForSomeInput (IsIsolated call)
+isolated call (inl (input, done)) run = (
+  input,
+  record {
+    done = done;
+    text = done.played.text.0 ∙ ap (grown call.sink.taken_before) (report-alone input done.accepted.runnable);
+  },
+)
+isolated call (inr checked) run = absurd (not_both (command_of call.words) run checked.check)
+
+module _ (call : Call) (files : Files) (held : call.shelf.held ≡ Some files) where
+  -- the answer that the contents rule
+  ruled : (decided : Ruling) (answer : Status) → IfHeld call.shelf.held (λ files. ruling call.words files ≡ decided) → answer ≡ status_by decided
+      → (answer ≡ status_by (ruling call.words files)) ⊎ (answer ≡ status.OutOfMemory)
+  ruled decided answer told is =
+      inl (is ∙ ap status_by (sym (held_fact call.shelf.held files (λ files. ruling call.words files ≡ decided) held told)))
+
+  refused : (decided : Status) → IsRuled call decided
+      → (decided ≡ status_by (ruling call.words files)) ⊎ (decided ≡ status.OutOfMemory)
+  refused decided h = ruled (Refused decided) decided h.told refl
+
+  complete : (answer : Status) → Outcome call answer → call.shelf.before.faults < last_count → IsReadWell call files
+      → call.sink.faults_before < last_count → call.sink.faults_after ≡ call.sink.faults_before
+      → (answer ≡ status_by (ruling call.words files)) ⊎ (answer ≡ status.OutOfMemory)
+  complete status.Done (inl (input, done)) low well wlow wsame =
+      ruled (Accept input) status.Done done.accepted.told (sym (ap status_after done.played.board.built))
+  complete status.Done (inr checked) low well wlow wsame = ruled (Shown checked.cfg) status.Done checked.told refl
+  complete status.Usage (command, h) low well wlow wsame = refused status.Usage h
+  complete (status.ReadFault file) h low (inl same) wlow wsame =
+      absurd (risen-other call.shelf.before.faults low (sym h.fault.failed.0 ∙ same))
+  complete (status.ReadFault file) h low (inr same) wlow wsame =
+      let missed : ruling call.words (lacking h.fault.name files) ≡ Missing file =
+      held_fact call.shelf.held files (λ files. ruling call.words (lacking h.fault.name files) ≡ Missing file) held h.fault.told in
+      let here : ruling call.words (lacking call.shelf.after.culprit files) ≡ Missing file =
+      ap (λ name. ruling call.words (lacking name files)) h.fault.failed.1 ∙ missed in
+      inl (ap status_by (sym here ∙ same))
+  complete (status.TooLong file limit) (reads, h) low well wlow wsame = refused (status.TooLong file limit) h
+  complete status.BadToml (reads, h) low well wlow wsame = refused status.BadToml h
+  complete (status.IllConfig why) (reads, h) low well wlow wsame = refused (status.IllConfig why) h
+  complete (status.TooMany core runs entries) (reads, h) low well wlow wsame = refused (status.TooMany core runs entries) h
+  complete status.WriteFault (inl (input, fault)) low well wlow wsame =
+      absurd (risen-other call.sink.faults_before wlow (sym fault.played.text.1 ∙ wsame))
+  complete status.WriteFault (inr fault) low well wlow wsame =
+      absurd (risen-other call.sink.faults_before wlow (sym fault.text.1 ∙ wsame))
+  complete status.OutOfMemory h low well wlow wsame = inr refl
+  complete status.ManyVms (run, h) low well wlow wsame = refused status.ManyVms h
+  complete (status.NotBuilt part.Words) (command, h) low well wlow wsame = refused (status.NotBuilt part.Words) h
+  complete (status.NotBuilt part.Config) (run, h) low well wlow wsame = refused (status.NotBuilt part.Config) h
+  complete (status.NotBuilt part.Schedule) (run, h) low well wlow wsame = refused (status.NotBuilt part.Schedule) h
+  complete (status.NotBuilt (part.Event n)) (input, halted) low well wlow wsame =
+      ruled (Accept input) (status.NotBuilt (part.Event n)) halted.accepted.told (sym (ap status_after halted.played.unbuilt))
+
+-- all that the top call promises
+pub answers_from : (call : Call) (answer : Status) → Outcome call answer → Answers call answer
+answers_from call answer h = record {
+  outcome = h;
+  isolated = λ done. isolated call (rw done at h);
+  complete = λ files held low well wlow wsame. complete call files held answer h low well wlow wsame;
+}
