@@ -37,7 +37,8 @@ fn places_text(alloc: Global, shape: &Shape) -> Result<String, AllocError> {
     }
     for port in shape.ports.as_slice() {
         let words = format!(in alloc;
-            "port {} {:x} spi {} cores {} ", port.id, port.base, port.spi, port.cores
+            "port {} {:x} spi {} cores {} ",
+            port.id, port.base, port.spi, port.cores
         )?;
         text.push_str(words.as_str())?;
     }
