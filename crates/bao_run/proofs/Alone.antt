@@ -77,4 +77,4 @@ module _ (input : InputData) (runnable : IsRunnable input) where
 
   -- the report shows each VM as it is alone
   pub report-alone : report input.cfg (final input) ≡ lone_report input
-  report-alone = ap (λ t. t ++ done_line) (sections_alone 0 input.cfg.vms (λ k vm is. is))
+  report-alone = ap (λ t. t ++ done_line) (sections_alone 0 input.cfg.vms (λ k vm is. let here : 0 + k ≡ k = omega arith in ap (λ n. slice_get input.cfg.vms n) here ∙ is))

@@ -66,10 +66,10 @@ held_more (Some files) vms images vm image come is held fits = come_more files v
 
 -- the first file of a name, by the place of the VM whose image it is
 module _ (name schedule : List ℕ) where
-  abbrev names : ℕ → List VmData → List Named
+  abbrev pub names : ℕ → List VmData → List Named
   names v vms = image_names v vms ++ (file.Schedule, schedule) ∷ []
 
-  abbrev at_place : Option ℕ → FileId
+  abbrev pub at_place : Option ℕ → FileId
   at_place None = file.Schedule
   at_place (Some v) = file.Image v
 
@@ -184,7 +184,7 @@ module _ (held : Option Files) (start now new : Blame) (config schedule : List �
       → IfHeld o (λ files. (next : List (List ℕ) → Ruling) → rule_images files next 0 cfg.vms ≡ Refused (status.TooLong id limit))
   is_long None h long id limit here most = tt
   is_long (Some files) h long id limit here most =
-      λ next. long_image files next 0 cfg.vms images vm (length images) h is refl long
+      λ next. long_image files next 0 cfg.vms images vm (length images) h is (omega arith) long
       ∙ ap (λ id. Refused (status.TooLong id (image_limit vm))) (sym here) ∙ ap (λ limit. Refused (status.TooLong id limit)) (sym most)
 
   as_told : (o : Option Files) (P : Option (List ℕ) → Type 0) → IfTold o vm.image P → IfHeld o (λ files. P (files vm.image))

@@ -1,6 +1,6 @@
 -- A run is the fold of its steps.
-use Rattle.std.proofs.Common.{◌≡◌, ℕ, zero, suc, ◌+◌, ◌<◌, ◌≤◌, Bool, true, false, List, [], ◌∷◌, length, drop, get_or, map, refl, sym, subst, ap, ◌∙◌, absurd, arith, add-one}
-use Rattle.std.specs.Prelude.{Option, None, Some, slice_get, if◌then◌else◌, ◌&&◌, is_some}
+use Rattle.std.proofs.Common.{◌≡◌, ℕ, zero, suc, ◌+◌, ◌<◌, ◌≤◌, Bool, true, false, List, [], ◌∷◌, length, drop, get_or, map, refl, sym, subst, ap, ◌∙◌, arith, add-one}
+use Rattle.std.specs.Prelude.{Option, None, Some, slice_get, if◌then◌else◌, ◌&&◌, is_some, is_none}
 use Rattle.std.specs.List.{enumerate_from}
 use Rattle.std.proofs.Math.Seq.{drop-cons}
 use Rattle.bao_config.specs.Data.{ConfigData, VmData}
@@ -11,7 +11,7 @@ use Rattle.vm_create.specs.Shape.{shape_of}
 use Rattle.vm_model.specs.declared.power.Power.{Power}
 use Rattle.vm_model.specs.declared.power.Power.TheVariants.{On, Off}
 use Rattle.vm_model.specs.Boot.{boot_power, boot_powers, power_of_vm, virtual_core}
-use Rattle.vm_model.specs.Flat.{Flat, FlatEvent, Step, is_on, runs, flat_step, flat_run, is_entered, entered_count, is_event_unbuilt, first_unbuilt}
+use Rattle.vm_model.specs.Flat.{Flat, FlatEvent, Step, is_on, runs, flat_attempt, flat_stepped, flat_step, flat_run, is_entered, entered_count, is_event_unbuilt, first_unbuilt}
 use Rattle.vm_model.specs.Project.{project}
 use Rattle.bao_run.specs.Packed.{ArePacked}
 use Rattle.bao_run.specs.Schedule.{flat_event}
@@ -44,7 +44,7 @@ module _ (cfg : ConfigData) (powers : List Power) (m : Machine) (core count : �
   -- a core runs in the model where it is on
   runs_where_on : (on : Bool) → is_core_on powers core ≡ on → runs cfg (project powers m) core ≡ on
   runs_where_on true on =
-      let own : is_some (owner cfg core) ≡ true = power_at cfg cfg.platform.cores 0 core (ap (λ p. is_core_on p core) (sym ready.powers) ∙ on) in
+      let own : is_some (owner cfg core) ≡ true = power_at cfg cfg.platform.cores 0 core (ap (λ p. is_core_on p core) (sym ready.on) ∙ on) in
       rw (own, on) refl
   runs_where_on false on = rw on (falsely (is_some (owner cfg core)))
     where
@@ -55,12 +55,12 @@ module _ (cfg : ConfigData) (powers : List Power) (m : Machine) (core count : �
   state_of : (on : Bool) → is_core_on powers core ≡ on
       → project powers (if on then stepped m core count else m) ≡ flat_step cfg (project powers m) (Step core count)
   state_of true on = (steps_alike cfg m powers core count (ready.packed.realised core low) ready.shape (runs_where_on true on)).state
-  state_of false on = sym (ap (λ r. if r then _ else project powers m) (runs_where_on false on))
+  state_of false on = sym (ap (λ r. if r then flat_stepped cfg (project powers m) core count else project powers m) (runs_where_on false on))
 
   unbuilt_of : (on : Bool) → is_core_on powers core ≡ on
       → (on && step_is_unbuilt m core count) ≡ is_event_unbuilt cfg (project powers m) (Step core count)
   unbuilt_of true on = (steps_alike cfg m powers core count (ready.packed.realised core low) ready.shape (runs_where_on true on)).unbuilt
-  unbuilt_of false on = sym (ap (λ r. r && _) (runs_where_on false on))
+  unbuilt_of false on = sym (ap (λ r. r && is_none (flat_attempt cfg (project powers m) core count)) (runs_where_on false on))
 
   pub state_alike : project powers (taken powers m core count) ≡ flat_step cfg (project powers m) (Step core count)
   state_alike = state_of (is_core_on powers core) refl
@@ -70,7 +70,7 @@ module _ (cfg : ConfigData) (powers : List Power) (m : Machine) (core count : �
 
   -- what a step leaves as it is, and what it counts
   pub record Leaves (next : Machine) : Type 0 where
-    pub ready : IsReady cfg powers next
+    pub still : IsReady cfg powers next
     pub entries : next.entries ≡ m.entries
     pub shape : next.shape ≡ m.shape
     pub entered : next.entered ≡ m.entered + (if runs cfg (project powers m) core then 1 else 0)
@@ -78,14 +78,14 @@ module _ (cfg : ConfigData) (powers : List Power) (m : Machine) (core count : �
 
   leaves_by : (on : Bool) → is_core_on powers core ≡ on → Leaves (if on then stepped m core count else m)
   leaves_by true on = record {
-    ready = record { fitted = ready.fitted; shape = ready.shape; packed = record { realised = ready.packed.realised }; powers = ready.powers };
+    still = record { fitted = ready.fitted; shape = ready.shape; packed = record { realised = ready.packed.realised }; on = ready.on };
     entries = refl;
     shape = refl;
     entered = rw (runs_where_on true on) refl;
     spent = omega arith;
   }
   leaves_by false on = record {
-    ready = ready;
+    still = ready;
     entries = refl;
     shape = refl;
     entered = rw (runs_where_on false on) (omega arith);
@@ -136,7 +136,7 @@ module _ (cfg : ConfigData) (powers : List Power) (start now : Machine) (done co
       let keeps = leaves cfg powers now core count running.ready low in
       let entering : is_entered cfg f (flat_event e) ≡ runs cfg f core = ap (is_entered cfg f) is in
       record {
-        ready = keeps.ready;
+        ready = keeps.still;
         state = ap (λ f. flat_run cfg f (map flat_event left)) state ∙ running.state;
         built = ap (λ f. first_unbuilt cfg f (done + 1) (map flat_event left)) state ∙ (rw it refl ∙ running.built);
         entered =

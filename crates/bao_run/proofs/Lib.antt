@@ -4,6 +4,7 @@ pub mod Numbers
 pub mod Lines
 pub mod Rules
 pub mod Fetches
+pub mod Inputs
 pub mod Fold
 pub mod Outcomes
 pub mod Alone

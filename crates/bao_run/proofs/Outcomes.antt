@@ -1,6 +1,6 @@
 -- From what the parts of a call answer to what its status means.
 use Rattle.std.proofs.Common.{◌≡◌, ℕ, List, refl, ap, ◌∙◌, inl, inr, false}
-use Rattle.std.specs.Prelude.{None, Some, ⊤}
+use Rattle.std.specs.Prelude.{Option, None, Some}
 use Rattle.bao_config.specs.Fits.{ConfigFits}
 use Rattle.bao_wellformed.specs.WellFormed.{IsWellFormed}
 use Rattle.bao_wellformed.specs.Checked.{checked_data}

@@ -60,29 +60,29 @@ same_itself text = by_test (same text text) refl
 -- are there.
 module _ (files : Files) (name schedule : List ℕ) where
   -- the names of the files from an image on
-  abbrev names : ℕ → List VmData → List Named
+  abbrev pub names : ℕ → List VmData → List Named
   names v vms = image_names v vms ++ (file.Schedule, schedule) ∷ []
 
   -- the file after these images has the name
-  abbrev IsNext : List VmData → List (List ℕ) → Type 0
+  abbrev pub IsNext : List VmData → List (List ℕ) → Type 0
   IsNext [] [] = same schedule name ≡ true
   IsNext [] (image ∷ images) = ⊥
   IsNext (vm ∷ vms) [] = same vm.image name ≡ true
   IsNext (vm ∷ vms) (image ∷ images) = IsNext vms images
 
-  is_next : (vms : List VmData) (images : List (List ℕ)) → slice_get (map (λ vm. vm.image) vms) (length images) ≡ Some name
+  pub is_next : (vms : List VmData) (images : List (List ℕ)) → slice_get (map (λ vm. vm.image) vms) (length images) ≡ Some name
       → IsNext vms images
   is_next [] images e = cc
   is_next (vm ∷ vms) [] e = let it : vm.image ≡ name = cc in subst (λ n. same vm.image n ≡ true) it (same_itself vm.image)
   is_next (vm ∷ vms) (image ∷ images) e = is_next vms images e
 
-  at_schedule : (vms : List VmData) (images : List (List ℕ)) → length images ≡ length vms → same schedule name ≡ true → IsNext vms images
+  pub at_schedule : (vms : List VmData) (images : List (List ℕ)) → length images ≡ length vms → same schedule name ≡ true → IsNext vms images
   at_schedule [] [] e is = is
   at_schedule [] (image ∷ images) e is = absurd (omega arith)
   at_schedule (vm ∷ vms) [] e is = absurd (omega arith)
   at_schedule (vm ∷ vms) (image ∷ images) e is = at_schedule vms images (omega arith) is
 
-  missed : (next : List (List ℕ) → Ruling) → (same schedule name ≡ true → (images : List (List ℕ)) → next images ≡ Missing file.Schedule)
+  pub missed : (next : List (List ℕ) → Ruling) → (same schedule name ≡ true → (images : List (List ℕ)) → next images ≡ Missing file.Schedule)
       → (v : ℕ) (vms : List VmData) (images : List (List ℕ)) → AreImages files vms images → IsNext vms images
       → (first : FileId) → first_named name (names v vms) ≡ Some first
       → rule_images (lacking name files) next v vms ≡ Missing first

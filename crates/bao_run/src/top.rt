@@ -145,9 +145,9 @@ fn start<B: Board>(alloc: Global, board: &mut B, input: &Input) -> Result<ArrayV
     requires unfitted { (B.state board.old).fitted ≡ false }
     requires input { CanPlay input.now }
     ensures powers { IfOk result (λ powers. powers.items ≡ boot_powers (input_data input.now).cfg) }
-    ensures board { let data = input_data input.now in
+    ensures board { let given = input_data input.now in
         OnOk result (B.state board.new
-        ≡ booted data.cfg (packings data.cfg) data.images (fitted_with (shape_of data.cfg (length data.events)) (B.state board.old))) }
+        ≡ booted given.cfg (packings given.cfg) given.images (fitted_with (shape_of given.cfg (length given.events)) (B.state board.old))) }
     ensures unfitted { OnErr result (IsUnfitted (record { before = B.state board.old; after = B.state board.new })) }
 {
     let Input {

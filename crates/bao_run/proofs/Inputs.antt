@@ -1,0 +1,300 @@
+-- What the parts of reading answer is what the command rules.
+use Rattle.std.proofs.Common.{◌≡◌, ℕ, ◌<◌, ◌≤◌, Bool, true, false, List, [], ◌∷◌, ◌++◌, length, map, find, cond, drop, Option, None, Some, Err, Ok, slice_get, refl, sym, subst, ap, ◌∙◌, arith, append-nil}
+use Rattle.std.specs.Prelude.{IsSomeAnd, if◌then◌else◌, nat_lt, unwrap_or}
+use Rattle.std.specs.Option.{option_map}
+use Rattle.std.proofs.Math.ListN.{drop_of_length-le}
+use Rattle.std.proofs.lemmas.Bool.Decides.{nat_tests}
+use Rattle.bao_config.specs.Data.{ConfigData, VmData}
+use Rattle.outside.specs.Faults.{risen}
+use Rattle.outside.specs.Shelf.{Blame, IfTold}
+use Rattle.mpu_packer.specs.declared.packing.PackError.{PackError}
+use Rattle.mpu_packer.specs.declared.packing.PackError.TheVariants as pack
+use Rattle.report.specs.declared.status.FileId.{FileId}
+use Rattle.report.specs.declared.status.FileId.TheVariants as file
+use Rattle.report.specs.declared.status.Part.TheVariants as part
+use Rattle.report.specs.declared.status.Status.{Status}
+use Rattle.report.specs.declared.status.Status.TheVariants as status
+use Rattle.vm_model.specs.Flat.{FlatEvent}
+use Rattle.bao_run.specs.Words.{Command, Run, Check, same}
+use Rattle.bao_run.specs.Call.{Files, ShelfUse, IsFaultless}
+use Rattle.bao_run.specs.MatchSchedule.{MatchStatus}
+use Rattle.bao_run.specs.Ruling.{Ruling, Refused, Missing, Shown, Accept, rule_command, rule_config, rule_check, rule_run, rule_files, rule_images, rule_schedule, rule_events, rule_packing, schedule_limit}
+use Rattle.bao_run.specs.Schedule.{schedule_of}
+use Rattle.bao_run.specs.Input.{IfHeld, IsFetch, IsRefused, IsRuledBy, Named, files_of, first_named, lacking}
+use Rattle.bao_run.specs.Reading.{HoldsConfig, IsConfigAnswer, AreImages, HasCome, IsImagesAnswer, IsBuiltAnswer, IsOverfull, IsPackable, packing_status}
+use Rattle.bao_run.proofs.Rules.{config_passes, images_pass, same_itself, IsNext, names, missed, is_next, at_schedule}
+use Rattle.bao_run.proofs.Fetches.{schedule_told}
+
+every : (held : Option Files) (P : Files → Type 0) → ((files : Files) → P files) → IfHeld held P
+every None P all = tt
+every (Some files) P all = all files
+
+pub follows : (held : Option Files) (P Q : Files → Type 0) → ((files : Files) → P files → Q files) → IfHeld held P → IfHeld held Q
+follows None P Q step h = tt
+follows (Some files) P Q step h = step files h
+
+pub both : (held : Option Files) (P Q R : Files → Type 0) → ((files : Files) → P files → Q files → R files) → IfHeld held P → IfHeld held Q
+    → IfHeld held R
+both None P Q R step p q = tt
+both (Some files) P Q R step p q = step files p q
+
+-- some configuration; of a fault at the configuration's own name none is known
+no_config : ConfigData
+no_config =
+    record {
+      version = 1;
+      platform = record { banks = []; cores = []; gicd = 0; gicr = 0; ports = [] };
+      hyp = record { base = 0; size = 0 };
+      shmems = [];
+      vms = [];
+    }
+
+-- a command that reads a configuration first
+module _ (shelf : ShelfUse) (config : List ℕ) (command : Command) (next : Files → ConfigData → Ruling)
+    (rules : (files : Files) → rule_command files command ≡ rule_config (next files) (files config))
+    (first : (cfg : ConfigData) → first_named config (files_of command cfg) ≡ Some file.Config) where
+  missing : (files : Files) → rule_command (lacking config files) command ≡ Missing file.Config
+  missing files = rules (lacking config files) ∙ rw (same_itself config) refl
+
+  refused : (decided : Status) → IfHeld shelf.held (λ files. (next : ConfigData → Ruling) → rule_config next (files config) ≡ Refused decided) × IsFaultless shelf
+      → IsRuledBy shelf command (Refused decided)
+  refused decided h = (
+    follows shelf.held (λ files. (next : ConfigData → Ruling) → rule_config next (files config) ≡ Refused decided)
+    (λ files. rule_command files command ≡ Refused decided) (λ files all. rules files ∙ all (next files)) h.0,
+    h.1,
+  )
+
+  config_refused : (decided : Status) → IsConfigAnswer shelf config (Err decided) → IsRefused shelf command decided
+  config_refused status.Done h = absurd h
+  config_refused status.Usage h = absurd h
+  config_refused (status.ReadFault id) h = record {
+    name = config;
+    failed = h.1;
+    cfg = no_config;
+    first = first no_config ∙ ap Some (sym h.0);
+    told = every shelf.held (λ files. rule_command (lacking config files) command ≡ Missing id)
+        (λ files. missing files ∙ ap Missing (sym h.0));
+  }
+  config_refused (status.TooLong file limit) h = refused (status.TooLong file limit) h
+  config_refused status.BadToml h = refused status.BadToml h
+  config_refused (status.IllConfig why) h = refused (status.IllConfig why) h
+  config_refused (status.TooMany core runs entries) h = absurd h
+  config_refused status.WriteFault h = absurd h
+  config_refused status.OutOfMemory h = h
+  config_refused status.ManyVms h = absurd h
+  config_refused (status.NotBuilt part) h = absurd h
+
+config_first : (config : List ℕ) (others : List (FileId × List ℕ)) → first_named config ((file.Config, config) ∷ others) ≡ Some file.Config
+config_first config others = rw (same_itself config) refl
+
+pub run_config_refused : (shelf : ShelfUse) (config schedule : List ℕ) (decided : Status) → IsConfigAnswer shelf config (Err decided)
+    → IsRefused shelf (Run config schedule) decided
+run_config_refused shelf config schedule decided h =
+    config_refused shelf config (Run config schedule) (λ files. rule_run files schedule) (λ files. refl)
+    (λ cfg. config_first config _) decided h
+
+pub check_config_refused : (shelf : ShelfUse) (config : List ℕ) (decided : Status) → IsConfigAnswer shelf config (Err decided)
+    → IsRefused shelf (Check config) decided
+check_config_refused shelf config decided h =
+    config_refused shelf config (Check config) (λ files. rule_check) (λ files. refl) (λ cfg. config_first config []) decided h
+
+-- a check of a well-formed configuration
+module _ (shelf : ShelfUse) (config : List ℕ) (cfg : ConfigData) (holds : IfHeld shelf.held (λ files. HoldsConfig files config cfg))
+    (faultless : IsFaultless shelf) where
+  pub check_rules : (decided : Ruling) → rule_check cfg ≡ decided → IsRuledBy shelf (Check config) decided
+  check_rules decided rules = (
+    follows shelf.held (λ files. HoldsConfig files config cfg) (λ files. rule_command files (Check config) ≡ decided)
+    (λ files it. config_passes files config cfg it rule_check ∙ rules) holds,
+    faultless,
+  )
+
+  pub check_packing_refused : (core : ℕ) (fault : PackError) → IsOverfull cfg core fault
+      → IsRefused shelf (Check config) (packing_status core fault)
+  check_packing_refused core (pack.TooMany runs entries) full =
+      check_rules (Refused (status.TooMany core runs entries)) (full (Shown cfg))
+  check_packing_refused core pack.OutOfMemory full = faultless
+
+  pub check_shown : IsPackable cfg → IsRuledBy shelf (Check config) (Shown cfg)
+  check_shown packable = check_rules (Shown cfg) (packable (Shown cfg))
+
+-- a run of a well-formed configuration
+module _ (shelf : ShelfUse) (config schedule : List ℕ) (cfg : ConfigData) (holds : IfHeld shelf.held (λ files. HoldsConfig files config cfg)) where
+  run_rules : (P : Files → Type 0) (decided : Ruling) → IfHeld shelf.held P → ((files : Files) → P files → rule_run files schedule cfg ≡ decided)
+      → IfHeld shelf.held (λ files. rule_command files (Run config schedule) ≡ decided)
+  run_rules P decided told rules =
+      both shelf.held (λ files. HoldsConfig files config cfg) P (λ files. rule_command files (Run config schedule) ≡ decided)
+      (λ files it p. config_passes files config cfg it (rule_run files schedule) ∙ rules files p) holds told
+
+  pub built_refused : IsFaultless shelf → (decided : Status) → IsBuiltAnswer cfg (Err decided) → IsRefused shelf (Run config schedule) decided
+  built_refused faultless status.Done h = absurd h
+  built_refused faultless status.Usage h = absurd h
+  built_refused faultless (status.ReadFault file) h = absurd h
+  built_refused faultless (status.TooLong file limit) h = absurd h
+  built_refused faultless status.BadToml h = absurd h
+  built_refused faultless (status.IllConfig why) h = absurd h
+  built_refused faultless (status.TooMany core runs entries) h =
+      (run_rules (λ files. HoldsConfig files config cfg) (Refused (status.TooMany core runs entries)) holds (λ files it. h files schedule), faultless)
+  built_refused faultless status.WriteFault h = absurd h
+  built_refused faultless status.OutOfMemory h = faultless
+  built_refused faultless status.ManyVms h =
+      (tt, (run_rules (λ files. HoldsConfig files config cfg) (Refused status.ManyVms) holds (λ files it. h files schedule), faultless))
+  built_refused faultless (status.NotBuilt part.Words) h = absurd h
+  built_refused faultless (status.NotBuilt part.Config) h =
+      (tt, (run_rules (λ files. HoldsConfig files config cfg) (Refused (status.NotBuilt part.Config)) holds (λ files it. h files schedule), faultless))
+  built_refused faultless (status.NotBuilt part.Schedule) h = absurd h
+  built_refused faultless (status.NotBuilt (part.Event number)) h = absurd h
+
+  -- images and schedule decide
+  module _ (rules : (files : Files) → rule_run files schedule cfg ≡ rule_files files schedule cfg) where
+    -- where a name is told as missing, the first file of that name is missed
+    module _ (files : Files) (it : HoldsConfig files config cfg) (name : List ℕ) (images : List (List ℕ)) (come : AreImages files cfg.vms images)
+        (here : IsNext files name schedule cfg.vms images) (first : FileId) where
+      without_config : (b : Bool) → same config name ≡ b
+          → option_map (λ (f : Named). f.0) (cond b (Some (file.Config, config)) (find (λ named. same named.1 name) (names files name schedule 0 cfg.vms)))
+          ≡ Some first
+          → rule_config (rule_run (lacking name files) schedule) (if b then None else files config) ≡ Missing first
+      without_config true is found = cc
+      without_config false is found =
+          config_passes files config cfg it (rule_run (lacking name files) schedule) ∙ rules (lacking name files)
+          ∙ missed files name schedule (λ images. rule_schedule cfg images (lacking name files schedule)) (λ is images. rw is refl)
+          0 cfg.vms images come here first found
+
+      missed_first : first_named name (files_of (Run config schedule) cfg) ≡ Some first
+          → rule_command (lacking name files) (Run config schedule) ≡ Missing first
+      missed_first found = without_config (same config name) refl found
+
+    -- a refusal at an image; the shelf had as many faults before it as at the start
+    module _ (start : Blame) (same_faults : shelf.before.faults ≡ start.faults) where
+      abbrev whole : ShelfUse
+      whole = record { held = shelf.held; before = start; after = shelf.after }
+
+      images_stop : (decided : Status)
+          → IfHeld shelf.held (λ files. (next : List (List ℕ) → Ruling) → rule_images files next 0 cfg.vms ≡ Refused decided)
+          → IfHeld shelf.held (λ files. rule_command files (Run config schedule) ≡ Refused decided)
+      images_stop decided told =
+          run_rules (λ files. (next : List (List ℕ) → Ruling) → rule_images files next 0 cfg.vms ≡ Refused decided) (Refused decided) told
+          (λ files all. rules files ∙ all (λ images. rule_schedule cfg images (files schedule)))
+
+      pub images_refused : (decided : Status) → IsImagesAnswer shelf config schedule cfg (Err decided) → IsRefused whole (Run config schedule) decided
+      images_refused status.Done h = absurd h
+      images_refused status.Usage h = absurd h
+      images_refused (status.ReadFault id) h = record {
+        name = h.name;
+        failed = (h.failed.0 ∙ ap risen same_faults, h.failed.1);
+        cfg = cfg;
+        first = h.first;
+        told = both shelf.held (λ files. HoldsConfig files config cfg) (λ files. HasCome files cfg h.name)
+            (λ files. rule_command (lacking h.name files) (Run config schedule) ≡ Missing id)
+            (λ files it come. missed_first files it h.name come.images come.come
+            (is_next files h.name schedule cfg.vms come.images come.here) id h.first) holds h.come;
+      }
+      images_refused (status.TooLong id limit) h = (images_stop (status.TooLong id limit) h.0, h.1 ∙ same_faults)
+      images_refused status.BadToml h = absurd h
+      images_refused (status.IllConfig why) h = absurd h
+      images_refused (status.TooMany core runs entries) h = absurd h
+      images_refused status.WriteFault h = absurd h
+      images_refused status.OutOfMemory h = h ∙ same_faults
+      images_refused status.ManyVms h = absurd h
+      images_refused (status.NotBuilt part) h = absurd h
+
+      -- all images have come: the schedule decides
+      module _ (images : List (List ℕ)) (count : length images ≡ length cfg.vms) (told : IfHeld shelf.held (λ files. AreImages files cfg.vms images)) where
+        schedule_rules : (files : Files) → HoldsConfig files config cfg → AreImages files cfg.vms images
+            → rule_command files (Run config schedule) ≡ rule_schedule cfg images (files schedule)
+        schedule_rules files it come =
+            config_passes files config cfg it (rule_run files schedule) ∙ rules files
+            ∙ images_pass files (λ images. rule_schedule cfg images (files schedule)) 0 cfg.vms images come
+            ∙ none_left (drop (length images) cfg.vms) (drop_of_length-le cfg.vms (omega arith))
+          where
+            none_left : (vms : List VmData) → vms ≡ []
+                → rule_images files (λ others. rule_schedule cfg (images ++ others) (files schedule)) (0 + length images) vms
+                ≡ rule_schedule cfg images (files schedule)
+            none_left [] e = ap (λ images. rule_schedule cfg images (files schedule)) (append-nil images)
+            none_left (vm ∷ vms) e = cc
+
+        by_schedule : (P : Files → Type 0) (decided : Ruling) → IfHeld shelf.held P
+            → ((files : Files) → P files → rule_schedule cfg images (files schedule) ≡ decided)
+            → IfHeld shelf.held (λ files. rule_command files (Run config schedule) ≡ decided)
+        by_schedule P decided told' step =
+            both shelf.held (λ files. HoldsConfig files config cfg) (λ files. AreImages files cfg.vms images × P files)
+            (λ files. rule_command files (Run config schedule) ≡ decided)
+            (λ files it p. schedule_rules files it p.0 ∙ step files p.1) holds
+            (both shelf.held (λ files. AreImages files cfg.vms images) P (λ files. AreImages files cfg.vms images × P files) (λ files come p. (come, p)) told told')
+
+        as_told : (o : Option Files) (P : Option (List ℕ) → Type 0) → IfTold o schedule P → IfHeld o (λ files. P (files schedule))
+        as_told None P h = tt
+        as_told (Some files) P h = h
+
+        long_schedule : (content : Option (List ℕ)) → IsSomeAnd content (λ bytes. schedule_limit < length bytes)
+            → rule_schedule cfg images content ≡ Refused (status.TooLong file.Schedule schedule_limit)
+        long_schedule None h = absurd h
+        long_schedule (Some bytes) h =
+            let more : nat_lt schedule_limit (length bytes) ≡ true = grind (arith, nat_tests) in rw more refl
+
+        pub schedule_refused : (blamed : FileId)
+            → blamed ≡ unwrap_or (first_named schedule (files_of (Run config schedule) cfg)) file.Schedule
+            → (decided : Status)
+            → IsFetch shelf (record { file = file.Schedule; blamed = blamed; name = schedule; limit = schedule_limit }) (Err decided)
+            → IsRefused whole (Run config schedule) decided
+        schedule_refused blamed at status.Done h = absurd h
+        schedule_refused blamed at status.Usage h = absurd h
+        schedule_refused blamed at (status.ReadFault id) h =
+            let first = schedule_told config schedule cfg blamed at ∙ ap Some (sym h.0) in
+            record {
+              name = schedule;
+              failed = (h.1.0 ∙ ap risen same_faults, h.1.1);
+              cfg = cfg;
+              first = first;
+              told = both shelf.held (λ files. HoldsConfig files config cfg) (λ files. AreImages files cfg.vms images)
+                  (λ files. rule_command (lacking schedule files) (Run config schedule) ≡ Missing id)
+                  (λ files it come. missed_first files it schedule images come
+                  (at_schedule files schedule schedule cfg.vms images count (same_itself schedule)) id first) holds told;
+            }
+        schedule_refused blamed at (status.TooLong id limit) h =
+            let P : Files → Type 0 = λ files. IsSomeAnd (files schedule) (λ bytes. schedule_limit < length bytes) in
+            (
+              by_schedule P (Refused (status.TooLong id limit))
+              (as_told shelf.held (λ content. IsSomeAnd content (λ bytes. schedule_limit < length bytes)) h.0)
+              (λ files long. long_schedule (files schedule) long
+              ∙ ap (λ id. Refused (status.TooLong id schedule_limit)) (sym h.1) ∙ ap (λ limit. Refused (status.TooLong id limit)) (sym h.2)),
+              h.3 ∙ same_faults,
+            )
+        schedule_refused blamed at status.BadToml h = absurd h
+        schedule_refused blamed at (status.IllConfig why) h = absurd h
+        schedule_refused blamed at (status.TooMany core runs entries) h = absurd h
+        schedule_refused blamed at status.WriteFault h = absurd h
+        schedule_refused blamed at status.OutOfMemory h = h ∙ same_faults
+        schedule_refused blamed at status.ManyVms h = absurd h
+        schedule_refused blamed at (status.NotBuilt part) h = absurd h
+
+        -- the bytes of the schedule have come
+        module _ (bytes : List ℕ) (content : IfTold shelf.held schedule (λ content. content ≡ Some bytes)) (short : length bytes ≤ schedule_limit)
+            (faultless : IsFaultless shelf) where
+          by_bytes : (decided : Ruling) → rule_events cfg images (schedule_of bytes) ≡ decided → IsRuledBy whole (Run config schedule) decided
+          by_bytes decided is = (
+            by_schedule (λ files. files schedule ≡ Some bytes) decided (as_told shelf.held (λ content. content ≡ Some bytes) content)
+            (λ files held.
+            let few : nat_lt schedule_limit (length bytes) ≡ false = grind (arith, nat_tests) in rw (held, few) is),
+            faultless ∙ same_faults,
+          )
+
+          pub events_refused : (decided : Status) → MatchStatus bytes decided → IsRefused whole (Run config schedule) decided
+          events_refused status.Done h = absurd h
+          events_refused status.Usage h = absurd h
+          events_refused (status.ReadFault file) h = absurd h
+          events_refused (status.TooLong file limit) h = absurd h
+          events_refused status.BadToml h = absurd h
+          events_refused (status.IllConfig why) h = absurd h
+          events_refused (status.TooMany core runs entries) h = absurd h
+          events_refused status.WriteFault h = absurd h
+          events_refused status.OutOfMemory h = faultless ∙ same_faults
+          events_refused status.ManyVms h = absurd h
+          events_refused (status.NotBuilt part.Words) h = absurd h
+          events_refused (status.NotBuilt part.Config) h = absurd h
+          events_refused (status.NotBuilt part.Schedule) h =
+              (tt, by_bytes (Refused (status.NotBuilt part.Schedule)) (ap (rule_events cfg images) h))
+          events_refused (status.NotBuilt (part.Event number)) h = absurd h
+
+          pub accepts : (events : List FlatEvent) → schedule_of bytes ≡ Some events
+              → IsRuledBy whole (Run config schedule) (Accept (record { cfg = cfg; images = images; events = events }))
+          accepts events is = by_bytes (Accept (record { cfg = cfg; images = images; events = events })) (ap (rule_events cfg images) is)
