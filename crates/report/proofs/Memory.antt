@@ -1,9 +1,9 @@
 -- The memory lines of a map, span by span.
-use Rattle.std.proofs.Common.{◌≡◌, ℕ, zero, suc, ◌+◌, ◌-◌, ◌*◌, ◌/◌, ◌<◌, ◌≤◌, Bool, true, false, List, [], ◌∷◌, ◌++◌, length, get_or, take, refl, sym, ap, subst, ◌∙◌, arith, append_assoc, inl, inr}
-use Rattle.std.specs.Prelude.{if◌then◌else◌, nat_le, nat_lt, not, ◌&&◌, ◌⊎◌, All}
+use Rattle.std.proofs.Common.{◌≡◌, ℕ, zero, suc, ◌+◌, ◌-◌, ◌*◌, ◌/◌, ◌<◌, ◌≤◌, Bool, true, false, List, [], ◌++◌, length, take, refl, sym, ap, subst, ◌∙◌, arith, append_assoc, inl, inr}
+use Rattle.std.specs.Prelude.{if◌then◌else◌, nat_le, nat_lt, not, ◌&&◌, All}
 use Rattle.std.proofs.lemmas.Bool.Decides.{nat_tests}
-use Rattle.std.proofs.lemmas.List.{take_all, take_more}
-use Rattle.std.proofs.lemmas.List.Elements.{All-push, All-weaker}
+use Rattle.std.proofs.lemmas.List.{take_all}
+use Rattle.std.proofs.lemmas.List.Elements.{All-weaker}
 use Rattle.bao_types.specs.declared.range.ByteRange.{ByteRange}
 use Rattle.bao_types.specs.ByteRange.{end, is_within}
 use Rattle.bao_wellformed.specs.declared.map.Kind.{Kind}
@@ -100,29 +100,12 @@ module _ (range : ByteRange) (at next a : ℕ) (low : at ≤ a) (high : a < next
   within_alike base last =
       ap (λ b. b && nat_lt a (end range)) (from_alike base) ∙ ap (λ b. nat_le range.base at && b) (to_alike last)
 
--- a bound stays beside, where the second address is nearer
-beside_nearer : (bound at next next' : ℕ) → next' ≤ next → IsBeside bound at next → IsBeside bound at next'
-beside_nearer bound at next next' low (inl below) = inl below
-beside_nearer bound at next next' low (inr above) = inr (omega (arith, low, above))
-
 -- no bound of an entry lies between two addresses
 abbrev pub EntryBeside : ℕ → ℕ → MapEntry → Type 0
 EntryBeside at next entry = IsBeside entry.range.base at next × IsBeside (end entry.range) at next
 
 abbrev pub AreBeside : ℕ → ℕ → List MapEntry → Type 0
 AreBeside at next entries = All (EntryBeside at next) entries
-
--- one entry more
-pub beside_more : (entries : List MapEntry) (i : ℕ) (entry : MapEntry) (at next next' : ℕ) → i < length entries
-    → entry ≡ get_or entries i entry → AreBeside at next (take i entries) → next' ≤ next → EntryBeside at next' entry
-    → AreBeside at next' (take (i + 1) entries)
-beside_more entries i entry at next next' low is before near here =
-    let so_far : AreBeside at next' (take i entries) =
-    All-weaker (EntryBeside at next) (EntryBeside at next')
-    (λ e both. (beside_nearer e.range.base at next next' near both.0, beside_nearer (end e.range) at next next' near both.1))
-    (take i entries) before in
-    subst (λ es. AreBeside at next' es) (ap (λ e. take i entries ++ e ∷ []) is ∙ sym (take_more entries i entry low))
-    (All-push (EntryBeside at next') (take i entries) entry so_far here)
 
 -- all bytes up to the second address are of one kind, where it is beside all of the entries
 pub kinds_alike : (entries : List MapEntry) (i at next a : ℕ) → length entries ≤ i → AreBeside at next (take i entries) → at ≤ a → a < next

@@ -12,7 +12,8 @@ ghost use Rattle.report.specs.Section.{vm_text, cores_text, core_text, consoles_
 ghost use Rattle.report.specs.Groups.{alike_text, groups_text, plain_group, IsBeside};
 
 use crate::lines::{
-    put_byte, put_console_head, put_core, put_end, put_memory, put_nonzero, put_register, put_vm, put_x,
+    put_byte, put_console_head, put_core, put_end, put_memory, put_nonzero, put_register, put_vm,
+    put_x,
 };
 use arrayvec::ArrayVec;
 use bao_config::{Config, Dev, Vm};
@@ -202,11 +203,7 @@ fn write_consoles<K: Sink, B: Board>(
 
 /// What a port has put out, where it is a console.
 #[tactic(auto, using(crate::proofs::Progress::nothing_taken), unfolding(crate::specs::Section::console_text))]
-fn write_console_of<K: Sink, B: Board>(
-    sink: &mut K,
-    board: &B,
-    dev: &Dev,
-) -> Result<(), SinkFailed>
+fn write_console_of<K: Sink, B: Board>(sink: &mut K, board: &B, dev: &Dev) -> Result<(), SinkFailed>
     requires fitted { (B.state board.now).fitted ≡ true }
     ensures taken { Takes (K.taken sink.old) (K.taken sink.new) (console_text (B.state board.now).console dev.now) result }
     ensures cause { HasCause (K.faults sink.old) (K.faults sink.new) result }
@@ -260,7 +257,13 @@ fn write_memory<K: Sink, B: Board>(
     while group < ALL_GROUPS {
         // The bytes up to the next change are of one kind.
         let next = (next_change(map, 16 * group) + 15) / 16;
-        write_alike(sink, board, kind_in(map, 16 * group), 16 * group, next - group)?;
+        write_alike(
+            sink,
+            board,
+            kind_in(map, 16 * group),
+            16 * group,
+            next - group,
+        )?;
         group = next;
     }
     Ok(())

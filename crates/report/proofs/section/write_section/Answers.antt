@@ -1,8 +1,6 @@
 use Rattle.std.proofs.Common.{◌≡◌, ap, subst, ◌∙◌, rules}
 use Rattle.std.specs.Prelude.{IsErr}
 use Rattle.std.proofs.lemmas.Result.{MatchResult-from_err}
-use Rattle.bao_config.specs.declared.config.Dev.{Dev}
-use Rattle.bao_wellformed.specs.declared.map.MapEntry.{MapEntry}
 use Rattle.bao_config.specs.Config.{config_data}
 use Rattle.bao_config.specs.Data.{vm_data}
 use Rattle.bao_wellformed.specs.ByteRules.{kind_in}
@@ -31,7 +29,8 @@ returns-in_err-write_consoles-clause-taken g c =
     (λ _. part_second _ _ _ _ _ named
     (part_second _ _ _ _ _ cored
     (part_first _ _ _ _
-    (subst (λ ds. TakesPart (g.K.Sink.taken c.write_cores.new.sink) (g.K.Sink.taken c.write_consoles.new.sink) (consoles_text m.console ds)) devs
+    (subst (λ ds. TakesPart (g.K.Sink.taken c.write_cores.new.sink) (g.K.Sink.taken c.write_consoles.new.sink)
+    (consoles_text m.console ds)) devs
     c.in_err-write_consoles.ensures.taken))))
 
 pub returns-in_err-write_memory-clause-taken : goal.returns-in_err-write_memory-clause-taken

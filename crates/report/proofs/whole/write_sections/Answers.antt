@@ -1,8 +1,7 @@
-use Rattle.std.proofs.Common.{◌≤◌, ◌<◌, ◌+◌, ◌∙◌, ◌++◌, map, drop, All, length, sym, ap, subst, rules, arith}
+use Rattle.std.proofs.Common.{◌≤◌, ◌<◌, ◌+◌, ◌∙◌, ◌++◌, map, drop, All, sym, ap, subst, rules, arith}
 use Rattle.std.specs.Prelude.{IsErr}
 use Rattle.std.proofs.lemmas.Result.{MatchResult-from_err}
 use Rattle.bao_types.specs.ByteRange.{address_space_end, end}
-use Rattle.bao_config.specs.Config.{config_data}
 use Rattle.bao_config.specs.Data.{ConfigData, vm_data}
 use Rattle.bao_wellformed.specs.Checked.{checked_data}
 use Rattle.bao_wellformed.specs.Map.{map_of}
@@ -38,7 +37,8 @@ write_section-requires-clause-space g c =
     let is =
     vm_at (checked_data checked) c.config.result.now c.as_slice-vm-items.result.now v vm c.config.ensures c.as_slice-vm-items.ensures.value
     c.loop-vm-test.true c.vm-item.is in
-    subst (λ (cfg : ConfigData). All (λ entry. end entry.range ≤ address_space_end) (map_of cfg (vm_data vm))) (sym c.config-in-loop-vm.ensures)
+    subst (λ (cfg : ConfigData). All (λ entry. end entry.range ≤ address_space_end) (map_of cfg (vm_data vm)))
+    (sym c.config-in-loop-vm.ensures)
     (maps_in_space (checked_data checked) v (vm_data vm) checked.well_formed is)
 
 pub returns-in_err-write_section-clause-taken : goal.returns-in_err-write_section-clause-taken
@@ -49,7 +49,8 @@ returns-in_err-write_section-clause-taken g c =
     MatchResult-from_err c.from_residual.result _ _ failed
     (λ _. stops_within _ _ _ _ c.loop-vm.invariant.text (g.K.Sink.taken c.write_section.new.sink) _ _
     (sections_next cfg f vms i vm c.loop-vm-test.true c.vm-item.is
-    ∙ ap (λ (cfg' : ConfigData). vm_text cfg' f (vm_data vm) ++ sections cfg f (map vm_data (drop (i + 1) vms))) (sym c.config-in-loop-vm.ensures))
+    ∙ ap (λ (cfg' : ConfigData). vm_text cfg' f (vm_data vm) ++ sections cfg f (map vm_data (drop (i + 1) vms)))
+    (sym c.config-in-loop-vm.ensures))
     c.in_err-write_section.ensures.taken)
 
 pub loop-vm-preserved : goal.loop-vm-preserved
@@ -60,7 +61,8 @@ loop-vm-preserved g c =
       text =
           goes_past _ _ _ _ c.loop-vm.invariant.text (g.K.Sink.taken c.write_section.new.sink) _ _
           (sections_next cfg f vms i vm c.loop-vm-test.true c.vm-item.is
-          ∙ ap (λ (cfg' : ConfigData). vm_text cfg' f (vm_data vm) ++ sections cfg f (map vm_data (drop (i + 1) vms))) (sym c.config-in-loop-vm.ensures))
+          ∙ ap (λ (cfg' : ConfigData). vm_text cfg' f (vm_data vm) ++ sections cfg f (map vm_data (drop (i + 1) vms)))
+          (sym c.config-in-loop-vm.ensures))
           c.in_ok-write_section.ensures.taken;
       faults = search rules;
     }
