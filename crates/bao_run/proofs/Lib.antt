@@ -3,6 +3,7 @@ pub mod Refines
 pub mod Numbers
 pub mod Lines
 pub mod Rules
+pub mod Packs
 pub mod Fetches
 pub mod Inputs
 pub mod Fold

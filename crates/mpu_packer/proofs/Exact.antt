@@ -1,14 +1,12 @@
 -- The runs of a core are those of the one list, since no byte outside the address space is the core's.
-use Rattle.std.proofs.Common.{◌≡◌, ℕ, ◌+◌, ◌<◌, ◌≤◌, Bool, true, false, List, [], ◌∷◌, cond, find, map, length, reverse, All, Option, None, Some, slice_get, refl, sym, subst, ap, ◌∙◌, arith}
-use Rattle.std.specs.Prelude.{if◌then◌else◌}
+use Rattle.std.proofs.Common.{◌≡◌, ℕ, ◌≤◌, false, List, [], ◌∷◌, find, map, length, reverse, All, Option, None, Some, refl, sym, subst, ap, ◌∙◌, arith}
 use Rattle.std.proofs.lemmas.Bool.Decides.{nat_tests}
 use Rattle.std.proofs.lemmas.List.Elements.{All-head, All-tail}
-use Rattle.bao_types.specs.declared.access.Class.{Class}
-use Rattle.bao_types.specs.declared.access.Class.TheVariants.{Nothing, Hyp}
+use Rattle.bao_types.specs.declared.access.Class.TheVariants.{Nothing}
 use Rattle.bao_types.specs.ByteRange.{address_space_end, end, is_within}
 use Rattle.bao_config.specs.Data.{ConfigData, VmData}
 use Rattle.bao_wellformed.specs.declared.map.MapEntry.{MapEntry}
-use Rattle.bao_wellformed.specs.Map.{class_of, grant, guest_class, has_core, kind_at, kind_of, map_of, owner}
+use Rattle.bao_wellformed.specs.Map.{class_of, grant, guest_class, has_core, kind_of, map_of, owner}
 use Rattle.bao_wellformed.specs.WellFormed.{IsWellFormed}
 use Rattle.bao_wellformed.proofs.Bytes.{all_reversed}
 use Rattle.bao_wellformed.proofs.Places.{maps_in_space, hypervisor_in_space}

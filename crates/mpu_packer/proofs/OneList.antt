@@ -1,6 +1,6 @@
 -- There is one list of maximal runs.
 use Rattle.std.proofs.Common.{◌≡◌, ◌≢◌, ℕ, zero, suc, ◌+◌, ◌-◌, ◌<◌, ◌≤◌, ◌==◌, ◌⊎◌, inl, inr, Bool, true, false, List, [], ◌∷◌, refl, sym, subst, ap, ◌∙◌, arith}
-use Rattle.std.specs.Prelude.{◌&&◌, if◌then◌else◌, IsTrue}
+use Rattle.std.specs.Prelude.{◌&&◌, IsTrue}
 use Rattle.std.proofs.lemmas.Bool.{cases_eq, cases_lt}
 use Rattle.std.proofs.lemmas.Bool.Decides.{nat_tests}
 use Rattle.bao_types.specs.declared.access.Class.{Class}
@@ -8,7 +8,7 @@ use Rattle.bao_types.specs.declared.access.Class.TheVariants.{Nothing, Hyp, Gues
 use Rattle.bao_types.specs.ByteRange.{address_space_end, end, is_within}
 use Rattle.bao_types.proofs.Ranges.{is_within-between}
 use Rattle.region_list.specs.declared.run.Run.{Run}
-use Rattle.region_list.specs.Runs.{AreRunsFrom, AreMaximalRuns, IsMaximalRun}
+use Rattle.region_list.specs.Runs.{AreRunsFrom}
 use Rattle.mpu_packer.specs.Laws.{HasOneList}
 use Rattle.mpu_packer.specs.Runs.{is_bit, is_class, run_of, with_front, in_front, runs_from, all_runs}
 

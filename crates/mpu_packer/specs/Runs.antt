@@ -1,6 +1,6 @@
 -- The maximal runs of a core's bytes as a list: from the last byte down, each byte that isn't of class Nothing joins the run
 -- that begins right after it, if that has its class, and else is a run of its own.
-use Rattle.std.specs.Prelude.{ℕ, zero, suc, ◌+◌, ◌==◌, ◌&&◌, Bool, true, false, not, if◌then◌else◌, List, [], ◌∷◌, length, map}
+use Rattle.std.specs.Prelude.{ℕ, zero, suc, ◌+◌, ◌==◌, ◌&&◌, Bool, true, false, not, if◌then◌else◌, List, [], ◌∷◌, map}
 use Rattle.bao_types.specs.declared.access.Class.{Class}
 use Rattle.bao_types.specs.declared.access.Class.TheVariants.{Nothing, Hyp, Guest}
 use Rattle.bao_types.specs.declared.region.Region.{Region}
