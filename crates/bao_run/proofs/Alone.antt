@@ -1,15 +1,14 @@
 -- The report shows each VM as it is alone.
-use Rattle.std.proofs.Common.{◌≡◌, ℕ, suc, ◌+◌, List, [], ◌∷◌, ◌++◌, map, All, drop, refl, sym, subst, ap, ◌∙◌, arith}
+use Rattle.std.proofs.Common.{◌≡◌, ℕ, suc, ◌+◌, List, [], ◌∷◌, ◌++◌, All, refl, sym, subst, ap, ◌∙◌, arith}
 use Rattle.std.proofs.Common.{◌-◌}
-use Rattle.std.specs.Prelude.{Option, None, Some, slice_get, if◌then◌else◌, nat_le, Bool, true, false, length, ⊤}
+use Rattle.std.specs.Prelude.{Option, None, Some, slice_get, if◌then◌else◌, nat_le, Bool, true, false, length}
 use Rattle.std.proofs.lemmas.List.Elements.{All-cons, All-nil}
-use Rattle.bao_config.specs.Data.{ConfigData, VmData}
+use Rattle.bao_config.specs.Data.{VmData}
 use Rattle.report.specs.Lines.{done_line}
 use Rattle.report.specs.Section.{report, section, section_of, sections, vm_text}
 use Rattle.report.proofs.Shown.{shows_as_if_alone}
 use Rattle.vm_model.specs.Alone.{IsStep}
-use Rattle.vm_model.specs.Flat.{FlatEvent, Step, Wrote, flat_run}
-use Rattle.vm_model.specs.Boot.{boot}
+use Rattle.vm_model.specs.Flat.{FlatEvent, Step}
 use Rattle.vm_model.specs.Lone.{only, lone}
 use Rattle.vm_model.proofs.WellFormed.{well_formed_apart, well_formed_granular}
 use Rattle.bao_run.specs.Schedule.{is_line, with_event, events_of, schedule_of}

@@ -1,6 +1,6 @@
 -- The contract of the top call follows from what its answer means.
 use Rattle.std.proofs.Common.{◌≡◌, ◌≢◌, ℕ, ◌<◌, refl, sym, ap, ◌∙◌, inl, inr, subst, arith}
-use Rattle.std.specs.Prelude.{Option, None, Some, ◌⊎◌}
+use Rattle.std.specs.Prelude.{Option, Some, ◌⊎◌}
 use Rattle.outside.specs.Faults.{risen}
 use Rattle.outside.specs.Sink.{grown}
 use Rattle.report.specs.declared.status.Part.TheVariants as part

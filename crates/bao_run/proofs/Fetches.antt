@@ -1,6 +1,6 @@
 -- What fetching the images one after the other gives.
-use Rattle.std.proofs.Common.{◌≡◌, ℕ, zero, suc, ◌+◌, ◌<◌, ◌≤◌, Bool, true, false, List, [], ◌∷◌, ◌++◌, length, map, find, cond, drop, Option, None, Some, slice_get, refl, sym, subst, ap, ◌∙◌, arith}
-use Rattle.std.specs.Prelude.{Err, IsSomeAnd, if◌then◌else◌, nat_lt, is_some, unwrap_or, ⊤}
+use Rattle.std.proofs.Common.{◌≡◌, ℕ, zero, suc, ◌+◌, ◌<◌, ◌≤◌, Bool, true, false, List, [], ◌∷◌, ◌++◌, length, find, cond, Option, None, Some, slice_get, refl, sym, subst, ap, ◌∙◌, arith}
+use Rattle.std.specs.Prelude.{Err, IsSomeAnd, nat_lt, is_some, unwrap_or, ⊤}
 use Rattle.std.specs.List.{position_from}
 use Rattle.std.specs.Option.{option_map}
 use Rattle.std.proofs.lemmas.Bool.Decides.{nat_tests}
@@ -214,3 +214,8 @@ module _ (held : Option Files) (start now new : Blame) (config schedule : List �
   image_refused status.OutOfMemory h = h ∙ same_faults
   image_refused status.ManyVms h = absurd h
   image_refused (status.NotBuilt part) h = absurd h
+
+-- what is told of a name, as a fact on the files
+pub told_content : (held : Option Files) (name : List ℕ) (P : Option (List ℕ) → Type 0) → IfTold held name P → IfHeld held (λ files. P (files name))
+told_content None name P h = tt
+told_content (Some files) name P h = h

@@ -1,28 +1,24 @@
 -- A run is the fold of its steps.
-use Rattle.std.proofs.Common.{◌≡◌, ℕ, zero, suc, ◌+◌, ◌<◌, ◌≤◌, Bool, true, false, List, [], ◌∷◌, length, drop, get_or, map, refl, sym, subst, ap, ◌∙◌, arith, add-one}
+use Rattle.std.proofs.Common.{◌≡◌, ℕ, zero, suc, ◌+◌, ◌<◌, ◌≤◌, Bool, true, false, List, [], ◌∷◌, length, drop, get_or, map, refl, sym, ap, ◌∙◌, arith, add-one}
 use Rattle.std.specs.Prelude.{Option, None, Some, slice_get, if◌then◌else◌, ◌&&◌, is_some, is_none}
 use Rattle.std.specs.List.{enumerate_from}
 use Rattle.std.proofs.Math.Seq.{drop-cons}
 use Rattle.bao_config.specs.Data.{ConfigData, VmData}
-use Rattle.bao_wellformed.specs.Map.{owner, class_of}
-use Rattle.board.specs.Machine.{Machine, entries_at, stepped, step_is_unbuilt}
-use Rattle.mpu_packer.specs.Packing.{Realises}
-use Rattle.vm_create.specs.Shape.{shape_of}
+use Rattle.bao_wellformed.specs.Map.{owner}
+use Rattle.board.specs.Machine.{Machine, stepped, step_is_unbuilt}
 use Rattle.vm_model.specs.declared.power.Power.{Power}
-use Rattle.vm_model.specs.declared.power.Power.TheVariants.{On, Off}
-use Rattle.vm_model.specs.Boot.{boot_power, boot_powers, power_of_vm, virtual_core}
-use Rattle.vm_model.specs.Flat.{Flat, FlatEvent, Step, is_on, runs, flat_attempt, flat_stepped, flat_step, flat_run, is_entered, entered_count, is_event_unbuilt, first_unbuilt}
+use Rattle.vm_model.specs.Boot.{boot_power}
+use Rattle.vm_model.specs.Flat.{Step, is_on, runs, flat_attempt, flat_stepped, flat_step, flat_run, entered_count, is_event_unbuilt, first_unbuilt}
 use Rattle.vm_model.specs.Project.{project}
-use Rattle.bao_run.specs.Packed.{ArePacked}
-use Rattle.bao_run.specs.Schedule.{flat_event}
-use Rattle.bao_run.specs.Ready.{IsReady, is_core_on, taken, is_unbuilt}
+use Rattle.bao_run.specs.Schedule.{flat_event, IsOfCoreZero}
+use Rattle.bao_run.specs.Ready.{IsReady, is_core_on, taken, is_unbuilt, after_event, halts_on}
 use Rattle.bao_run.specs.declared.schedule.Event.{Event}
+use Rattle.bao_run.specs.declared.schedule.Event.TheVariants as event
 use Rattle.bao_run.proofs.Refines.{steps_alike}
 
 -- the event at a place is the first of those that are left there
-pub next_of : (all : List Event) (n : ℕ) (e : Event) → n < length all → e ≡ get_or all n e
-    → drop n all ≡ e ∷ drop (n + 1) all
-next_of all n e low here = rw add-one (drop-cons all n e low ∙ ap (λ x. x ∷ drop (suc n) all) (sym here))
+pub next_of : (all : List Event) (n : ℕ) (d : Event) → n < length all → drop n all ≡ get_or all n d ∷ drop (n + 1) all
+next_of all n d low = rw add-one (drop-cons all n d low)
 
 -- at boot a core that is on has a VM
 off_without : (o : Option VmData) (core : ℕ) → is_on (Some (boot_power o core)) ≡ true → is_some o ≡ true
@@ -44,7 +40,9 @@ module _ (cfg : ConfigData) (powers : List Power) (m : Machine) (core count : �
   -- a core runs in the model where it is on
   runs_where_on : (on : Bool) → is_core_on powers core ≡ on → runs cfg (project powers m) core ≡ on
   runs_where_on true on =
-      let own : is_some (owner cfg core) ≡ true = power_at cfg cfg.platform.cores 0 core (ap (λ p. is_core_on p core) (sym ready.on) ∙ on) in
+      let here : 0 + core ≡ core = omega arith in
+      let own : is_some (owner cfg core) ≡ true =
+      ap (λ c. is_some (owner cfg c)) (sym here) ∙ power_at cfg cfg.platform.cores 0 core (ap (λ p. is_core_on p core) (sym ready.on) ∙ on) in
       rw (own, on) refl
   runs_where_on false on = rw on (falsely (is_some (owner cfg core)))
     where
@@ -113,41 +111,45 @@ pub starts : (cfg : ConfigData) (powers : List Power) (start : Machine) (all : L
 starts cfg powers start all ready =
     record { ready = ready; state = refl; built = refl; entered = refl; spent = omega arith; shape = refl; entries = refl }
 
-module _ (cfg : ConfigData) (powers : List Power) (start now : Machine) (done core count : ℕ) (all left : List Event) (e : Event)
-    (is : flat_event e ≡ Step core count) (running : IsRunning cfg powers start now done all (e ∷ left))
-    (low : core < length cfg.platform.cores) where
-  -- the event does something that isn't built: it is the first
-  pub halts : is_unbuilt powers now core count ≡ true → first_unbuilt cfg (project powers start) 0 (map flat_event all) ≡ Some done
-  halts unbuilt =
-      let it : is_event_unbuilt cfg (project powers now) (flat_event e) ≡ true =
-      ap (is_event_unbuilt cfg (project powers now)) is ∙ sym (unbuilt_alike cfg powers now core count running.ready low) ∙ unbuilt in
+module _ (cfg : ConfigData) (powers : List Power) (start now : Machine) (done core count : ℕ) (all left : List Event)
+    (running : IsRunning cfg powers start now done all (event.Step core count ∷ left)) (low : core < length cfg.platform.cores) where
+  -- the step does something that isn't built: it is the first
+  halts_at : is_unbuilt powers now core count ≡ true → first_unbuilt cfg (project powers start) 0 (map flat_event all) ≡ Some done
+  halts_at unbuilt =
+      let it : is_event_unbuilt cfg (project powers now) (Step core count) ≡ true =
+      sym (unbuilt_alike cfg powers now core count running.ready low) ∙ unbuilt in
       sym running.built ∙ rw it refl
 
   -- it was taken
-  pub runs_on : is_unbuilt powers now core count ≡ false
-      → IsRunning cfg powers start (taken powers now core count) (done + 1) all left
-  runs_on built =
+  runs_at : is_unbuilt powers now core count ≡ false → IsRunning cfg powers start (taken powers now core count) (done + 1) all left
+  runs_at built =
       let f = project powers now in
       let next = taken powers now core count in
-      let it : is_event_unbuilt cfg f (flat_event e) ≡ false =
-      ap (is_event_unbuilt cfg f) is ∙ sym (unbuilt_alike cfg powers now core count running.ready low) ∙ built in
-      let state : project powers next ≡ flat_step cfg f (flat_event e) =
-      state_alike cfg powers now core count running.ready low ∙ ap (flat_step cfg f) (sym is) in
+      let it : is_event_unbuilt cfg f (Step core count) ≡ false =
+      sym (unbuilt_alike cfg powers now core count running.ready low) ∙ built in
+      let state : project powers next ≡ flat_step cfg f (Step core count) = state_alike cfg powers now core count running.ready low in
       let keeps = leaves cfg powers now core count running.ready low in
-      let entering : is_entered cfg f (flat_event e) ≡ runs cfg f core = ap (is_entered cfg f) is in
       record {
         ready = keeps.still;
         state = ap (λ f. flat_run cfg f (map flat_event left)) state ∙ running.state;
         built = ap (λ f. first_unbuilt cfg f (done + 1) (map flat_event left)) state ∙ (rw it refl ∙ running.built);
         entered =
-            let one : entered_count cfg f (map flat_event (e ∷ left))
-            ≡ (if runs cfg f core then 1 else 0) + entered_count cfg (flat_step cfg f (flat_event e)) (map flat_event left) =
-            ap (λ b. (if b then 1 else 0) + entered_count cfg (flat_step cfg f (flat_event e)) (map flat_event left)) entering in
             let same : entered_count cfg (project powers next) (map flat_event left)
-            ≡ entered_count cfg (flat_step cfg f (flat_event e)) (map flat_event left) =
+            ≡ entered_count cfg (flat_step cfg f (Step core count)) (map flat_event left) =
             ap (λ f. entered_count cfg f (map flat_event left)) state in
-            omega (arith, running.entered, one, same, keeps.entered);
+            omega (arith, running.entered, same, keeps.entered);
         spent = omega (arith, running.spent, keeps.spent);
         shape = keeps.shape ∙ running.shape;
         entries = keeps.entries ∙ running.entries;
       }
+
+-- the same of an event of a schedule
+module _ (cfg : ConfigData) (powers : List Power) (start now : Machine) (done : ℕ) (all left : List Event) (some : 0 < length cfg.platform.cores) where
+  pub halts : (e : Event) → IsOfCoreZero e → IsRunning cfg powers start now done all (e ∷ left) → halts_on powers now e ≡ true
+      → first_unbuilt cfg (project powers start) 0 (map flat_event all) ≡ Some done
+  halts (event.Step core count) own running unbuilt =
+      halts_at cfg powers start now done core count all left running (omega arith) unbuilt
+
+  pub runs_on : (e : Event) → IsOfCoreZero e → IsRunning cfg powers start now done all (e ∷ left) → halts_on powers now e ≡ false
+      → IsRunning cfg powers start (after_event powers now e) (done + 1) all left
+  runs_on (event.Step core count) own running built = runs_at cfg powers start now done core count all left running (omega arith) built

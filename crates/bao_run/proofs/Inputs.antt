@@ -1,5 +1,5 @@
 -- What the parts of reading answer is what the command rules.
-use Rattle.std.proofs.Common.{◌≡◌, ℕ, ◌<◌, ◌≤◌, Bool, true, false, List, [], ◌∷◌, ◌++◌, length, map, find, cond, drop, Option, None, Some, Err, Ok, slice_get, refl, sym, subst, ap, ◌∙◌, arith, append-nil}
+use Rattle.std.proofs.Common.{◌≡◌, ℕ, ◌+◌, ◌<◌, ◌≤◌, Bool, true, false, List, [], ◌∷◌, ◌++◌, length, find, cond, drop, Option, None, Some, Err, refl, sym, ap, ◌∙◌, arith, append-nil}
 use Rattle.std.specs.Prelude.{IsSomeAnd, if◌then◌else◌, nat_lt, unwrap_or}
 use Rattle.std.specs.Option.{option_map}
 use Rattle.std.proofs.Math.ListN.{drop_of_length-le}
@@ -18,7 +18,7 @@ use Rattle.vm_model.specs.Flat.{FlatEvent}
 use Rattle.bao_run.specs.Words.{Command, Run, Check, same}
 use Rattle.bao_run.specs.Call.{Files, ShelfUse, IsFaultless}
 use Rattle.bao_run.specs.MatchSchedule.{MatchStatus}
-use Rattle.bao_run.specs.Ruling.{Ruling, Refused, Missing, Shown, Accept, rule_command, rule_config, rule_check, rule_run, rule_files, rule_images, rule_schedule, rule_events, rule_packing, schedule_limit}
+use Rattle.bao_run.specs.Ruling.{Ruling, Refused, Missing, Shown, Accept, rule_command, rule_config, rule_check, rule_run, rule_files, rule_images, rule_schedule, rule_events, schedule_limit}
 use Rattle.bao_run.specs.Schedule.{schedule_of}
 use Rattle.bao_run.specs.Input.{IfHeld, IsFetch, IsRefused, IsRuledBy, Named, files_of, first_named, lacking}
 use Rattle.bao_run.specs.Reading.{HoldsConfig, IsConfigAnswer, AreImages, HasCome, IsImagesAnswer, IsBuiltAnswer, IsOverfull, IsPackable, packing_status}
@@ -60,7 +60,7 @@ module _ (shelf : ShelfUse) (config : List ℕ) (command : Command) (next : File
       → IsRuledBy shelf command (Refused decided)
   refused decided h = (
     follows shelf.held (λ files. (next : ConfigData → Ruling) → rule_config next (files config) ≡ Refused decided)
-    (λ files. rule_command files command ≡ Refused decided) (λ files all. rules files ∙ all (next files)) h.0,
+        (λ files. rule_command files command ≡ Refused decided) (λ files all. rules files ∙ all (next files)) h.0,
     h.1,
   )
 
@@ -104,7 +104,7 @@ module _ (shelf : ShelfUse) (config : List ℕ) (cfg : ConfigData) (holds : IfHe
   pub check_rules : (decided : Ruling) → rule_check cfg ≡ decided → IsRuledBy shelf (Check config) decided
   check_rules decided rules = (
     follows shelf.held (λ files. HoldsConfig files config cfg) (λ files. rule_command files (Check config) ≡ decided)
-    (λ files it. config_passes files config cfg it rule_check ∙ rules) holds,
+        (λ files it. config_passes files config cfg it rule_check ∙ rules) holds,
     faultless,
   )
 
@@ -251,12 +251,11 @@ module _ (shelf : ShelfUse) (config schedule : List ℕ) (cfg : ConfigData) (hol
                   (at_schedule files schedule schedule cfg.vms images count (same_itself schedule)) id first) holds told;
             }
         schedule_refused blamed at (status.TooLong id limit) h =
-            let P : Files → Type 0 = λ files. IsSomeAnd (files schedule) (λ bytes. schedule_limit < length bytes) in
-            (
+            let P : Files → Type 0 = λ files. IsSomeAnd (files schedule) (λ bytes. schedule_limit < length bytes) in (
               by_schedule P (Refused (status.TooLong id limit))
-              (as_told shelf.held (λ content. IsSomeAnd content (λ bytes. schedule_limit < length bytes)) h.0)
-              (λ files long. long_schedule (files schedule) long
-              ∙ ap (λ id. Refused (status.TooLong id schedule_limit)) (sym h.1) ∙ ap (λ limit. Refused (status.TooLong id limit)) (sym h.2)),
+                  (as_told shelf.held (λ content. IsSomeAnd content (λ bytes. schedule_limit < length bytes)) h.0)
+                  (λ files long. long_schedule (files schedule) long
+                  ∙ ap (λ id. Refused (status.TooLong id schedule_limit)) (sym h.1) ∙ ap (λ limit. Refused (status.TooLong id limit)) (sym h.2)),
               h.3 ∙ same_faults,
             )
         schedule_refused blamed at status.BadToml h = absurd h
@@ -273,8 +272,8 @@ module _ (shelf : ShelfUse) (config schedule : List ℕ) (cfg : ConfigData) (hol
           by_bytes : (decided : Ruling) → rule_events cfg images (schedule_of bytes) ≡ decided → IsRuledBy whole (Run config schedule) decided
           by_bytes decided is = (
             by_schedule (λ files. files schedule ≡ Some bytes) decided (as_told shelf.held (λ content. content ≡ Some bytes) content)
-            (λ files held.
-            let few : nat_lt schedule_limit (length bytes) ≡ false = grind (arith, nat_tests) in rw (held, few) is),
+                (λ files held.
+                let few : nat_lt schedule_limit (length bytes) ≡ false = grind (arith, nat_tests) in rw (held, few) is),
             faultless ∙ same_faults,
           )
 

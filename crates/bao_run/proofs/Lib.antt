@@ -4,6 +4,7 @@ pub mod Numbers
 pub mod Lines
 pub mod Rules
 pub mod Packs
+pub mod Booted
 pub mod Fetches
 pub mod Inputs
 pub mod Fold

@@ -1,16 +1,14 @@
 -- From what the parts of a call answer to what its status means.
-use Rattle.std.proofs.Common.{◌≡◌, ℕ, List, refl, ap, ◌∙◌, inl, inr, false}
+use Rattle.std.proofs.Common.{◌≡◌, refl, ap, ◌∙◌, inl, inr, false}
 use Rattle.std.specs.Prelude.{Option, None, Some}
-use Rattle.bao_config.specs.Fits.{ConfigFits}
-use Rattle.bao_wellformed.specs.WellFormed.{IsWellFormed}
 use Rattle.bao_wellformed.specs.Checked.{checked_data}
 use Rattle.report.specs.declared.status.Part.TheVariants as part
 use Rattle.report.specs.declared.status.Status.{Status}
 use Rattle.report.specs.declared.status.Status.TheVariants as status
 use Rattle.report.specs.Status.{refusal_text}
-use Rattle.bao_run.specs.Words.{Command, Run, Check, Unbuilt, Unknown, Reads, IsRun, IsCheck, command_of}
+use Rattle.bao_run.specs.Words.{Command, Unbuilt, Unknown, Reads, IsRun, IsCheck, command_of}
 use Rattle.bao_run.specs.Call.{Files, Call, IsFaultless, IsPut}
-use Rattle.bao_run.specs.Ruling.{Ruling, Refused, rule_command}
+use Rattle.bao_run.specs.Ruling.{Refused, rule_command}
 use Rattle.bao_run.specs.Input.{IfHeld, IsRefused, IsRuledBy, IsInput, IsShown, input_data}
 use Rattle.bao_run.specs.Play.{IsPlayed, IsShowing}
 use Rattle.bao_run.specs.Outcome.{Outcome, IsAccepted, IsRuled}
@@ -34,7 +32,7 @@ module _ (call : Call) (board : call.board.after ≡ call.board.before) where
   by_words command decided is rules read line =
       ruled decided (
         every call.shelf.held (λ files. rule_command files (command_of call.words) ≡ Refused decided)
-        (λ files. ap (rule_command files) is ∙ rules files),
+            (λ files. ap (rule_command files) is ∙ rules files),
         read,
       ) line
 

@@ -1,7 +1,6 @@
 -- A core whose entries realise the map steps on the board as in the model.
 use Rattle.std.proofs.Common.{◌≡◌, ℕ, Bool, true, false, List, [], ◌∷◌, map, refl, sym, ap, ◌∙◌}
 use Rattle.std.specs.Prelude.{IsTrue, if◌then◌else◌, ◌&&◌, ◌||◌, slice_set, is_none}
-use Rattle.bao_types.specs.declared.region.Region.{Region}
 use Rattle.bao_types.specs.ByteRange.{is_within, is_in_one}
 use Rattle.bao_types.specs.Shape.{is_port_of, port_range}
 use Rattle.bao_config.specs.Data.{ConfigData}
@@ -15,7 +14,7 @@ use Rattle.vm_model.specs.declared.power.Power.{Power}
 use Rattle.vm_model.specs.Flat.{Step, runs, flat_reach, flat_attempt, flat_stepped, flat_step, is_event_unbuilt}
 use Rattle.vm_model.specs.Project.{project}
 use Rattle.mpu_packer.specs.Packing.{Realises}
-use Rattle.bao_run.specs.Steps.{IsStepAlike, StepsAlike}
+use Rattle.bao_run.specs.Steps.{StepsAlike}
 use Rattle.bao_run.proofs.Realises.{verdicts_alike}
 
 -- the ports that the board of a configuration has are those of its platform

@@ -1,5 +1,5 @@
 -- What the parts of reading answer: the configuration, the packings, and the images. No public clause cites this module.
-use Rattle.std.specs.Prelude.{◌≡◌, ◌≤◌, ℕ, List, [], ◌∷◌, Vec, Option, Some, None, Result, Ok, Err, length, map, slice_get, ⊤}
+use Rattle.std.specs.Prelude.{◌≡◌, ◌≤◌, ℕ, List, [], ◌∷◌, Vec, Some, None, Result, Ok, Err, length, map, slice_get, ⊤}
 use Rattle.std.specs.declared.alloc.Global.{Global}
 use Rattle.bao_config.specs.Answer.{spelled}
 use Rattle.bao_config.specs.Data.{ConfigData, VmData}

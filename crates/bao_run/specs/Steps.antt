@@ -1,9 +1,7 @@
 -- When a step of a board's core is the step of the model.
 use Rattle.std.specs.Prelude.{◌≡◌, ℕ, IsTrue, List}
-use Rattle.bao_types.specs.declared.region.Region.{Region}
 use Rattle.bao_config.specs.Data.{ConfigData}
-use Rattle.bao_wellformed.specs.Map.{class_of, by_map}
-use Rattle.board.specs.Stage2.{by_entries}
+use Rattle.bao_wellformed.specs.Map.{class_of}
 use Rattle.board.specs.Machine.{Machine, entries_at, stepped, step_is_unbuilt}
 use Rattle.vm_model.specs.declared.power.Power.{Power}
 use Rattle.vm_model.specs.Flat.{Step, runs, flat_step, is_event_unbuilt}

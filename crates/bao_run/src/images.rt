@@ -4,9 +4,12 @@ ghost use Rattle.report.specs.declared.status.FileId.TheVariants as file;
 ghost use Rattle.std.specs.List.{position_from};
 ghost use Rattle.bao_run.specs.Words.{Run, same};
 ghost use Rattle.bao_run.specs.Input.{files_of, first_named};
+ghost use Rattle.bao_config.specs.Data.{vm_data};
 ghost use Rattle.bao_run.specs.Reading.{IsImagesAnswer};
+ghost use Rattle.bao_run.specs.Ruling.{image_limit};
 
 use crate::fetch::fetch;
+use bao_config::Vm;
 use bao_wellformed::Checked;
 use outside::Shelf;
 use report::{FileId, Status};
@@ -31,13 +34,20 @@ pub fn read_images<S: Shelf>(
     for (v, vm) in checked.config().vms.as_slice().iter().enumerate() {
         let name = vm.image.as_str();
         let blamed = first_named(config, schedule, checked, name);
-        let limit = u32::try_from(vm.place.size).unwrap_or(u32::MAX);
-        let image = fetch(alloc, shelf, FileId::Image(v as u8), blamed, name, limit)?;
+        let file = FileId::Image(v as u8);
+        let image = fetch(alloc, shelf, file, blamed, name, image_limit(vm))?;
         if images.push(image).is_err() {
             return Err(Status::OutOfMemory);
         }
     }
     Ok(images)
+}
+
+/// How many bytes the image of a VM may have.
+fn image_limit(vm: &Vm) -> u32
+    ensures { result ≡ image_limit (vm_data vm.now) }
+{
+    u32::try_from(vm.place.size).unwrap_or(u32::MAX)
 }
 
 /// The first file of a run that has this name, the schedule where no other has it.

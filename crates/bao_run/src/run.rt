@@ -7,8 +7,7 @@ ghost use Rattle.bao_run.specs.Schedule.{flat_event, IsOfCoreZero};
 ghost use Rattle.bao_run.specs.Ready.{IsReady};
 
 use crate::input::Input;
-use crate::machine::take_step;
-use crate::schedule::Event;
+use crate::machine::take_event;
 use board::Board;
 use vm_model::Power;
 
@@ -33,10 +32,7 @@ pub fn run<B: Board>(board: &mut B, input: &Input, powers: &[Power]) -> Result<(
         OnOk result ((B.state board.new).entered ≡ (B.state board.old).entered + entered_count cfg f events) }
 {
     for (number, event) in input.events.iter().enumerate() {
-        let unbuilt = match *event {
-            Event::Step { core, count } => take_step(board, powers, core, count),
-        };
-        if unbuilt {
+        if take_event(board, powers, event) {
             return Err(number as u32);
         }
     }

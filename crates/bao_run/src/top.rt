@@ -141,7 +141,11 @@ fn play<K: Sink, B: Board>(alloc: Global, sink: &mut K, board: &mut B, input: &I
 }
 
 /// Fits the board for the events and boots it with the images. It answers the power of each core.
-fn start<B: Board>(alloc: Global, board: &mut B, input: &Input) -> Result<ArrayVec<Power, 8>, OutOfMemory>
+fn start<B: Board>(
+    alloc: Global,
+    board: &mut B,
+    input: &Input,
+) -> Result<ArrayVec<Power, 8>, OutOfMemory>
     requires unfitted { (B.state board.old).fitted ≡ false }
     requires input { CanPlay input.now }
     ensures powers { IfOk result (λ powers. powers.items ≡ boot_powers (input_data input.now).cfg) }

@@ -1,7 +1,5 @@
-use Rattle.std.proofs.Common.{◌≡◌, rules, subst, sym, ap}
+use Rattle.std.proofs.Common.{◌≡◌, rules}
 use Rattle.std.specs.Prelude.{Err}
-use Rattle.bao_run.specs.Words.{Check}
-use Rattle.bao_run.specs.Input.{IsCheckAnswer}
 use Rattle.bao_run.proofs.Inputs.{check_config_refused}
 use Rattle.bao_run.proofs.input.read_check.Goals as goal
 
