@@ -1,17 +1,17 @@
 -- The bytes of the banks are those of the pages that are there.
-use Rattle.std.proofs.Common.{◌≡◌, ◌≢◌, ℕ, zero, suc, ◌+◌, ◌-◌, ◌*◌, ◌<◌, ◌≤◌, ◌⊎◌, inl, inr, Bool, true, List, [], ◌∷◌, ◌++◌, Option, Some, None, length, length-append, take, drop, map, set, slice_index, slice_range, subst, refl, sym, ap, ◌∙◌, arith, drop-cons}
+use Rattle.std.proofs.Common.{◌≡◌, ◌≢◌, ℕ, zero, suc, ◌+◌, ◌-◌, ◌*◌, ◌%◌, ◌^◌, ◌<◌, ◌≤◌, ◌⊎◌, inl, inr, Bool, true, List, [], ◌∷◌, ◌++◌, Option, Some, None, length, length-append, take, drop, map, set, slice_index, slice_range, subst, refl, sym, ap, ◌∙◌, arith, drop-cons}
 use Rattle.std.specs.Prelude.{IfSome, is_some}
-use Rattle.std.specs.List.{range_with_len}
+use Rattle.std.proofs.Math.Nat.{mod-add-mod}
 use Rattle.std.proofs.lemmas.Bool.{cases_eq}
 use Rattle.std.proofs.lemmas.List.{get_or-set_same, get_or-set_other, get_or_append_left, get_or-append_right}
 use Rattle.bao_types.specs.ByteRange.{address_space_end}
-use Rattle.bao_types.specs.Bytes.{little_endian}
+use Rattle.bao_types.specs.Bytes.{little_endian, next_address}
 use Rattle.phys_memory.proofs.Runs.{length-put, slice_index-put_before, slice_index-put_inside, slice_index-put_behind}
 use Rattle.phys_bank.specs.declared.bank_place.BankPlace.{BankPlace}
 use Rattle.phys_bank.specs.declared.place.Spot.{Spot}
-use Rattle.phys_bank.specs.Banks.{BanksData, page_byte, byte_in, byte_at, has_page, is_kept, IsWritten, IsBanks}
+use Rattle.phys_bank.specs.Banks.{BanksData, page_byte, byte_in, byte_at, bytes_from, has_page, is_kept, IsWritten, IsBanks}
 use Rattle.phys_bank.specs.Directory.{page_at, is_page}
-use Rattle.phys_bank.specs.Places.{page_size, spot_of, ranges_of, total_pages, are_apart, AreLaid}
+use Rattle.phys_bank.specs.Places.{page_size, spot_of, ranges_of, total_pages, AreApart, AreLaid}
 use Rattle.phys_bank.proofs.Spots.{spot-below, same-page, spot-follows}
 
 -- each page that is there has all its bytes
@@ -60,7 +60,7 @@ module _ (pages : List (Option (List ℕ))) (entry : ℕ) (bytes page : List ℕ
 
 -- bytes that a spot has room for are put into its page
 module _ (places : List BankPlace) (pages : List (Option (List ℕ))) (at n : ℕ) (s : Spot) (bytes ys : List ℕ)
-    (laid : AreLaid 0 places) (apart : are_apart (ranges_of places) ≡ true) (is : spot_of places at ≡ Some s) (room : n ≤ s.room)
+    (laid : AreLaid 0 places) (apart : AreApart (ranges_of places)) (is : spot_of places at ≡ Some s) (room : n ≤ s.room)
     (within : s.offset + n ≤ length bytes) (lt : s.entry < length pages) (was : page_at pages s.entry ≡ Some bytes) (long : length ys ≡ n) where
   abbrev put : List ℕ
   put = take s.offset bytes ++ ys ++ drop (s.offset + n) bytes
@@ -93,55 +93,79 @@ module _ (places : List BankPlace) (pages : List (Option (List ℕ))) (at n : �
   is-written = record {
     here = here;
     others = λ x out. others x out (spot_of places x) refl;
-    kept = λ x. kept-after pages s.entry bytes put lt was (spot_of places x);
+    kept = λ i x. kept-after pages s.entry bytes put lt was (spot_of places x) i;
   }
 
   pub length-new_page : length put ≡ length bytes
   length-new_page = length-put bytes ys s.offset n long within
 
 -- the bytes that a spot has room for, as a number
-run : (f : ℕ → ℕ) (xs : List ℕ) (n a o : ℕ) → o + n ≤ length xs → ((k : ℕ) → k < n → f (a + k) ≡ slice_index xs (o + k)) → map f (range_with_len a n) ≡ take n (drop o xs)
-run f xs zero a o within same = refl
-run f xs (suc n) a o within same =
+run : (f : ℕ → ℕ) (xs : List ℕ) (n a o : ℕ) → o + n ≤ length xs → a + n ≤ address_space_end → ((k : ℕ) → k < n → f (a + k) ≡ slice_index xs (o + k))
+    → bytes_from f a n ≡ take n (drop o xs)
+run f xs zero a o within low same = refl
+run f xs (suc n) a o within low same =
     let first : f a ≡ slice_index xs o = (let p : a ≡ a + 0 = omega arith in let q : o + 0 ≡ o = omega arith in ap f p ∙ same 0 (omega arith) ∙ ap (slice_index xs) q) in
-    let rest = run f xs n (a + 1) (suc o) (omega (arith, within)) (λ k lt. let p : (a + 1) + k ≡ a + suc k = omega arith in let q : o + suc k ≡ suc o + k = omega arith in ap f p ∙ same (suc k) (omega (arith, lt)) ∙ ap (slice_index xs) q) in
-    ap (λ b. b ∷ map f (range_with_len (a + 1) n)) first ∙ ap (λ bs. slice_index xs o ∷ bs) rest ∙ sym (ap (take (suc n)) (drop-cons xs o 0 (omega (arith, within))))
+    let next : next_address a ≡ a + 1 = omega (arith, low) in
+    let rest = run f xs n (a + 1) (suc o) (omega (arith, within)) (omega (arith, low)) (λ k lt. let p : (a + 1) + k ≡ a + suc k = omega arith in let q : o + suc k ≡ suc o + k = omega arith in ap f p ∙ same (suc k) (omega (arith, lt)) ∙ ap (slice_index xs) q) in
+    ap (λ b. b ∷ bytes_from f (next_address a) n) first ∙ ap (λ x. slice_index xs o ∷ bytes_from f x n) next ∙ ap (λ bs. slice_index xs o ∷ bs) rest
+    ∙ sym (ap (take (suc n)) (drop-cons xs o 0 (omega (arith, within))))
 
-nothing : (f : ℕ → ℕ) (n a : ℕ) → ((k : ℕ) → k < n → f (a + k) ≡ 0) → little_endian (map f (range_with_len a n)) ≡ 0
-nothing f zero a same = refl
-nothing f (suc n) a same =
+nothing : (f : ℕ → ℕ) (n a : ℕ) → a + n ≤ address_space_end → ((k : ℕ) → k < n → f (a + k) ≡ 0) → little_endian (bytes_from f a n) ≡ 0
+nothing f zero a low same = refl
+nothing f (suc n) a low same =
     let first : f a ≡ 0 = (let p : a ≡ a + 0 = omega arith in ap f p ∙ same 0 (omega arith)) in
-    let rest = nothing f n (a + 1) (λ k lt. let p : (a + 1) + k ≡ a + suc k = omega arith in ap f p ∙ same (suc k) (omega (arith, lt))) in omega (arith, first, rest)
+    let next : next_address a ≡ a + 1 = omega (arith, low) in
+    let rest = ap (λ x. little_endian (bytes_from f x n)) next ∙ nothing f n (a + 1) (omega (arith, low)) (λ k lt. let p : (a + 1) + k ≡ a + suc k = omega arith in ap f p ∙ same (suc k) (omega (arith, lt))) in omega (arith, first, rest)
 
-module _ (banks : BanksData) (at n : ℕ) (s : Spot) (apart : are_apart (ranges_of banks.places) ≡ true) (is : spot_of banks.places at ≡ Some s) (room : n ≤ s.room) where
+module _ (banks : BanksData) (at n : ℕ) (s : Spot) (apart : AreApart (ranges_of banks.places)) (is : spot_of banks.places at ≡ Some s) (room : n ≤ s.room) where
   byte-near : (k : ℕ) → k < n → byte_at banks (at + k) ≡ page_byte (page_at banks.pages s.entry) (s.offset + k)
   byte-near k lt = let f = spot-follows banks.places at k s apart is (omega (arith, lt, room)) in
       ap (byte_in banks.pages) f.1 ∙ ap (λ e. page_byte (page_at banks.pages e) f.0.offset) f.2 ∙ ap (page_byte (page_at banks.pages s.entry)) f.3
 
+  -- they end in the address space
+  room-below : (m : ℕ) → m ≤ s.room → at + m ≤ address_space_end
+  room-below zero le = let low = spot-below banks.places at s is in omega (arith, low)
+  room-below (suc m) le = let f = spot-follows banks.places at m s apart is (omega (arith, le)) in let low = spot-below banks.places (at + m) f.0 f.1 in omega (arith, low)
+
   pub number-in_page : (bytes : List ℕ) → page_at banks.pages s.entry ≡ Some bytes → s.offset + n ≤ length bytes
-      → little_endian (slice_range bytes s.offset (s.offset + n)) ≡ little_endian (map (byte_at banks) (range_with_len at n))
+      → little_endian (slice_range bytes s.offset (s.offset + n)) ≡ little_endian (bytes_from (byte_at banks) at n)
   number-in_page bytes page within = let width : (s.offset + n) - s.offset ≡ n = omega arith in
       ap (λ m. little_endian (take m (drop s.offset bytes))) width
-      ∙ sym (ap little_endian (run (byte_at banks) bytes n at s.offset within (λ k lt. byte-near k lt ∙ ap (λ p. page_byte p (s.offset + k)) page)))
+      ∙ sym (ap little_endian (run (byte_at banks) bytes n at s.offset within (room-below n room) (λ k lt. byte-near k lt ∙ ap (λ p. page_byte p (s.offset + k)) page)))
 
-  pub number-of_none : page_at banks.pages s.entry ≡ None → 0 ≡ little_endian (map (byte_at banks) (range_with_len at n))
-  number-of_none page = sym (nothing (byte_at banks) n at (λ k lt. byte-near k lt ∙ ap (λ p. page_byte p (s.offset + k)) page))
+  pub number-of_none : page_at banks.pages s.entry ≡ None → 0 ≡ little_endian (bytes_from (byte_at banks) at n)
+  number-of_none page = sym (nothing (byte_at banks) n at (room-below n room) (λ k lt. byte-near k lt ∙ ap (λ p. page_byte p (s.offset + k)) page))
 
--- one byte more in front of a number
-pub number-more : (f : ℕ → ℕ) (a b n m v byte : ℕ) → b ≡ a + 1 → m ≡ n + 1 → byte ≡ f a → v ≡ little_endian (map f (range_with_len b n)) → v * 256 + byte ≡ little_endian (map f (range_with_len a m))
-number-more f a b n m v byte next more first rest =
-    let up : m ≡ suc n = omega arith in let whole = ap (λ k. little_endian (map f (range_with_len a k))) up in let tail = rest ∙ ap (λ k. little_endian (map f (range_with_len k n))) next in
-    omega (arith, whole, tail, first)
+-- the address behind one that was counted on
+next_of : (at k : ℕ) → next_address ((at + k) % 2 ^ 64) ≡ (at + (k + 1)) % 2 ^ 64
+next_of at k = mod-add-mod (at + k) (2 ^ 64) 1 ∙ ap (λ n. n % 2 ^ 64) (omega arith)
+
+-- a number is read from its last byte down: one byte more in front
+module _ (f : ℕ → ℕ) (at k n v byte : ℕ) (some : 0 < k) (up : k ≤ n) where
+  one_more : n - (k - 1) ≡ suc (n - k)
+  one_more = omega arith
+
+  behind : next_address ((at + (k - 1)) % 2 ^ 64) ≡ (at + k) % 2 ^ 64
+  behind = next_of at (k - 1) ∙ ap (λ m. (at + m) % 2 ^ 64) (omega arith)
+
+  pub number-more : byte ≡ f ((at + (k - 1)) % 2 ^ 64) → v ≡ little_endian (bytes_from f ((at + k) % 2 ^ 64) (n - k))
+      → v * 256 + byte ≡ little_endian (bytes_from f ((at + (k - 1)) % 2 ^ 64) (n - (k - 1)))
+  number-more first rest =
+      let e : little_endian (bytes_from f ((at + (k - 1)) % 2 ^ 64) (n - (k - 1)))
+      ≡ f ((at + (k - 1)) % 2 ^ 64) + 256 * little_endian (bytes_from f ((at + k) % 2 ^ 64) (n - k)) =
+      ap (λ m. little_endian (bytes_from f ((at + (k - 1)) % 2 ^ 64) m)) one_more
+      ∙ ap (λ a. f ((at + (k - 1)) % 2 ^ 64) + 256 * little_endian (bytes_from f a (n - k))) behind in
+      omega (arith, e, first, rest)
 
 pub nothing-written : (banks : BanksData) (at : ℕ) → IsWritten banks banks at []
-nothing-written banks at = record { here = λ k lt. absurd (omega (arith, lt)); others = λ x out. refl; kept = λ x. refl }
+nothing-written banks at = record { here = λ k lt. absurd (omega (arith, lt)); others = λ x out. refl; kept = refl }
 
 -- and one byte more behind those that are written
 pub written-more : (old mid new : BanksData) (at n byte : ℕ) (ys zs : List ℕ) → length ys ≡ n → zs ≡ ys ++ byte ∷ [] → IsWritten old mid at ys → IsWritten mid new (at + n) (byte ∷ []) → IsWritten old new at zs
 written-more old mid new at n byte ys zs long more first last = subst (IsWritten old new at) (sym more) (record {
   here = λ k lt. here k (omega (arith, lt, longer));
   others = λ x out. last.others x (later x out) ∙ first.others x (earlier x out);
-  kept = λ x. last.kept x ∙ first.kept x;
+  kept = last.kept ∙ first.kept;
 })
   where
     longer : length (ys ++ byte ∷ []) ≡ n + 1

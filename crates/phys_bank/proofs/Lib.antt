@@ -4,3 +4,4 @@ pub mod Laid
 pub mod Pages
 pub mod Spots
 pub mod Values
+pub mod Written

@@ -1,7 +1,6 @@
 -- What the places of bytes say of each other.
 use Rattle.std.proofs.Common.{◌≡◌, ℕ, zero, suc, ◌+◌, ◌-◌, ◌*◌, ◌/◌, ◌%◌, ◌<◌, ◌≤◌, ◌⊎◌, inl, inr, Bool, true, false, List, [], ◌∷◌, Option, Some, None, map, length, min, refl, sym, ap, ◌∙◌, subst, arith}
-use Rattle.std.specs.Prelude.{not, ◌&&◌, ◌||◌, if◌then◌else◌, is_some}
-use Rattle.std.specs.List.{list_any}
+use Rattle.std.specs.Prelude.{All, IsFalse, if◌then◌else◌}
 use Rattle.std.proofs.lemmas.Bool.Decides.{nat_tests}
 use Rattle.std.proofs.lemmas.List.Sums.{sum_by-cons}
 use Rattle.bao_types.specs.declared.range.ByteRange.{ByteRange}
@@ -9,7 +8,7 @@ use Rattle.bao_types.specs.ByteRange.{end, is_within, overlaps, address_space_en
 use Rattle.bao_types.proofs.Ranges.{is_within-bounds, is_within-between}
 use Rattle.phys_bank.specs.declared.bank_place.BankPlace.{BankPlace}
 use Rattle.phys_bank.specs.declared.place.Spot.{Spot}
-use Rattle.phys_bank.specs.Places.{page_size, page_count, spot_in, spot_of, ranges_of, total_pages, are_apart, AreLaid}
+use Rattle.phys_bank.specs.Places.{page_size, page_count, spot_in, spot_of, ranges_of, total_pages, AreApart, AreLaid}
 
 none_is_not_some : {A : Type 0} {X : Type 0} {x : X} → None ≡ Some x → A
 none_is_not_some e = cc
@@ -104,21 +103,23 @@ same-page (place ∷ places) next a b s t laid e f same = elim (found place plac
 pub not_in_both : (one other : ByteRange) (at : ℕ) → overlaps one other ≡ false → is_within other at ≡ true → is_within one at ≡ false
 not_in_both one other at apart is = grind (arith, nat_tests)
 
-split_and : (a b : Bool) → (not a && b) ≡ true → (a ≡ false) × (b ≡ true)
-split_and true b e = cc
-split_and false b e = (refl, e)
+-- the first range is apart from those behind it, which are apart from each other
+abbrev IsApart : ByteRange → List ByteRange → Type 0
+IsApart range ranges = All (λ other. IsFalse (overlaps range other)) ranges
 
-split_or : (a b : Bool) → (a || b) ≡ false → (a ≡ false) × (b ≡ false)
-split_or true b e = cc
-split_or false b e = (refl, e)
+apart-first : (range : ByteRange) (ranges : List ByteRange) → AreApart (range ∷ ranges) → IsApart range ranges
+apart-first range ranges apart = λ k d lt. apart 0 (suc k) d (omega arith) (omega (arith, lt))
+
+apart-behind : (range : ByteRange) (ranges : List ByteRange) → AreApart (range ∷ ranges) → AreApart ranges
+apart-behind range ranges apart = λ i j d lt within. apart (suc i) (suc j) d (omega (arith, lt)) (omega (arith, within))
 
 -- a byte that has a spot is in a bank, and so in none that the banks don't overlap
-not_in_first : (range : ByteRange) (places : List BankPlace) (at : ℕ) (s : Spot) → list_any (overlaps range) (ranges_of places) ≡ false → spot_of places at ≡ Some s → is_within range at ≡ false
+not_in_first : (range : ByteRange) (places : List BankPlace) (at : ℕ) (s : Spot) → IsApart range (ranges_of places) → spot_of places at ≡ Some s → is_within range at ≡ false
 not_in_first range [] at s apart e = none_is_not_some e
 not_in_first range (place ∷ places) at s apart e =
-    let no = split_or (overlaps range place.range) (list_any (overlaps range) (ranges_of places)) apart in elim (found place places at s e) [
-      | inl is ↦ not_in_both range place.range at no.0 is.0
-      | inr is ↦ not_in_first range places at s no.1 is.1
+    elim (found place places at s e) [
+      | inl is ↦ not_in_both range place.range at (apart 0 place.range (omega arith)) is.0
+      | inr is ↦ not_in_first range places at s (λ k d lt. apart (suc k) d (omega (arith, lt))) is.1
     ]
 
 next-quotient : (from k : ℕ) → k < 4096 - from % 4096 → (from + k) / 4096 ≡ from / 4096
@@ -137,10 +138,10 @@ room-bank k from size room r lt = grind (arith, r, lt)
 abbrev pub Follows : List BankPlace → ℕ → ℕ → Spot → Type 0
 Follows places at k s = (t : Spot) × (spot_of places (at + k) ≡ Some t) × (t.entry ≡ s.entry) × (t.offset ≡ s.offset + k)
 
-pub spot-follows : (places : List BankPlace) (at k : ℕ) (s : Spot) → are_apart (ranges_of places) ≡ true → spot_of places at ≡ Some s → k < s.room → Follows places at k s
+pub spot-follows : (places : List BankPlace) (at k : ℕ) (s : Spot) → AreApart (ranges_of places) → spot_of places at ≡ Some s → k < s.room → Follows places at k s
 spot-follows [] at k s apart e lt = none_is_not_some e
 spot-follows (place ∷ places) at k s apart e lt =
-    let both = split_and (list_any (overlaps place.range) (ranges_of places)) (are_apart (ranges_of places)) apart in elim (found place places at s e) [
+    elim (found place places at s e) [
       | inl is ↦ (
           let from = at - place.range.base in let b = is_within-bounds place.range at is.0 in let room = ap (λ t. t.room) is.1 in
           let in_page = room-page k from place.range.size s.room room lt in let in_bank = room-bank k from place.range.size s.room room lt in
@@ -149,6 +150,6 @@ spot-follows (place ∷ places) at k s apart e lt =
           let quotient = ap (λ n. n / 4096) moved ∙ next-quotient from k in_page in let remainder = ap (λ n. n % 4096) moved ∙ next-remainder from k in_page in
           (spot_in place (at + k), finds_here place places (at + k) here, ap (λ n. place.first + n) quotient ∙ sym (ap (λ t. t.entry) is.1), remainder ∙ ap (λ n. n + k) (sym (ap (λ t. t.offset) is.1))))
       | inr is ↦ (
-          let h = spot-follows places at k s both.1 is.1 lt in let behind = not_in_first place.range places (at + k) h.0 both.0 h.1 in
+          let h = spot-follows places at k s (apart-behind place.range (ranges_of places) apart) is.1 lt in let behind = not_in_first place.range places (at + k) h.0 (apart-first place.range (ranges_of places) apart) h.1 in
           (h.0, finds_behind place places (at + k) behind ∙ h.1, h.2, h.3))
     ]

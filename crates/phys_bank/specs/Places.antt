@@ -1,7 +1,7 @@
 -- Where the byte at an address lies among the pages of the banks. Each bank has pages of its own, the first one from the
 -- bank's base on, and they have consecutive places in the directory.
-use Rattle.std.specs.Prelude.{◌≡◌, ℕ, ◌+◌, ◌-◌, ◌*◌, ◌/◌, ◌%◌, min, not, ◌&&◌, Bool, true, false, if◌then◌else◌, List, [], ◌∷◌, map, Option, Some, None, sum_by}
-use Rattle.std.specs.List.{list_any}
+use Rattle.std.specs.Prelude.{◌≡◌, ℕ, ◌+◌, ◌-◌, ◌*◌, ◌/◌, ◌%◌, min, IsFalse, if◌then◌else◌, List, [], ◌∷◌, map, Option, Some, None, sum_by}
+use Rattle.std.specs.List.{AllPairs}
 use Rattle.bao_types.specs.declared.range.ByteRange.{ByteRange}
 use Rattle.bao_types.specs.ByteRange.{is_within, overlaps}
 use Rattle.phys_bank.specs.declared.bank_place.BankPlace.{BankPlace}
@@ -16,9 +16,8 @@ abbrev pub page_count : ByteRange → ℕ
 page_count bank = (bank.size + 4095) / page_size
 
 -- no byte is in two of the ranges
-abbrev pub are_apart : List ByteRange → Bool
-are_apart [] = true
-are_apart (range ∷ ranges) = not (list_any (overlaps range) ranges) && are_apart ranges
+abbrev pub AreApart : List ByteRange → Type 0
+AreApart ranges = AllPairs (λ one other. IsFalse (overlaps one other)) ranges
 
 -- where a byte of the bank lies: its page's place, its own place in the page, and how many bytes from it on are in the page
 -- and in the bank

@@ -1,12 +1,12 @@
 //! `Banks` and its calls.
-ghost use Rattle.std.specs.Prelude.{◌≡◌, ℕ, ◌+◌, ◌<◌, ◌≤◌, true, [], ◌∷◌, All, Some, map, length, sum_by, IfOk};
-ghost use Rattle.std.specs.List.{range_with_len};
-ghost use Rattle.bao_types.specs.ByteRange.{address_space_end, end};
+ghost use Rattle.std.specs.Prelude.{◌≡◌, ℕ, ◌+◌, ◌<◌, ◌≤◌, [], ◌∷◌, All, Some, map, length, sum, IsTrue, IsFalse, IfOk};
+ghost use Rattle.std.specs.List.{AllPairs, list_any};
+ghost use Rattle.bao_types.specs.ByteRange.{address_space_end, end, is_in_one, lies_in, overlaps};
 ghost use Rattle.bao_types.specs.Bytes.{IsWidth, little_endian, low_bytes};
-ghost use Rattle.phys_bank.specs.Banks.{byte_at, is_kept, IsWritten};
+ghost use Rattle.phys_bank.specs.Banks.{byte_at, bytes_from, is_kept, IsWritten};
 ghost use Rattle.phys_bank.specs.Directory.{is_page};
 ghost use Rattle.phys_bank.specs.Pages.{shares_page};
-ghost use Rattle.phys_bank.specs.Places.{are_apart, spot_of};
+ghost use Rattle.phys_bank.specs.Places.{spot_of};
 
 use crate::bank_place::BankPlace;
 use crate::directory::Directory;
@@ -42,10 +42,12 @@ impl Banks {
     pub fn new(alloc: Global, banks: &[ByteRange], used: &[ByteRange]) -> Result<Banks, OutOfMemory>
         requires count { length banks.now ≤ 8 }
         requires ends { All (λ bank. end bank ≤ address_space_end) banks.now }
-        requires apart { are_apart banks.now ≡ true }
-        requires total { sum_by (λ bank. bank.size) banks.now ≤ 0x4000000 }
-        ensures zero { IfOk result (λ made. (at : ℕ) → byte_at made at ≡ 0) }
-        ensures pages { IfOk result (λ made. (at : ℕ) → is_kept made at ≡ shares_page banks.now used.now at) }
+        requires apart { AllPairs (λ one other. IsFalse (overlaps one other)) banks.now }
+        requires total { sum (map (λ bank. bank.size) banks.now) ≤ 0x4000000 }
+        ensures zero { IfOk result (λ made. byte_at made ≡ (λ at. 0)) }
+        ensures pages { IfOk result (λ made. is_kept made ≡ shares_page banks.now used.now) }
+        ensures used { IfOk result (λ made. All (λ range. IsTrue (list_any (lies_in range) banks.now)) used.now
+            → (at : ℕ) → IsTrue (is_in_one (λ range. range) used.now at) → IsTrue (is_kept made at)) }
     {
         let (places, count) = lay_out(banks);
         let mut directory = Directory::new(alloc, count)?;
@@ -66,9 +68,19 @@ impl Banks {
         }
     }
 
+    /// Whether the byte at an address has a page.
+    pub fn keeps(&self, at: u64) -> bool
+        ensures { result ≡ is_kept self.now at }
+    {
+        match find(&self.places, at) {
+            Some(spot) => self.directory.get(spot.entry).is_some(),
+            None => false,
+        }
+    }
+
     /// Gives the byte at an address the value. The byte has a page.
     pub fn set(&mut self, at: u64, value: u8)
-        requires { is_kept self.old at ≡ true }
+        requires { IsTrue (is_kept self.old at) }
         ensures { IsWritten self.old self.new at (value ∷ []) }
     {
         let Some(spot) = find(&self.places, at) else {
@@ -77,11 +89,10 @@ impl Banks {
         self.write_within(at, spot, 1, u64::from(value));
     }
 
-    /// The `width` bytes from `at` on, as a number whose least byte comes first.
+    /// The `width` bytes from `at` on, as a number whose least byte comes first. Addresses wrap at 2^64.
     pub fn read_le(&self, at: u64, width: u32) -> u64
-        requires width { IsWidth width }
-        requires end { at + width ≤ address_space_end }
-        ensures { result ≡ little_endian (map (byte_at self.now) (range_with_len at width)) }
+        requires { IsWidth width }
+        ensures { result ≡ little_endian (bytes_from (byte_at self.now) at width) }
     {
         if let Some(spot) = find(&self.places, at) {
             if u64::from(width) <= spot.room {
@@ -94,7 +105,7 @@ impl Banks {
     /// Puts the lowest `width` bytes of the value at `at`, the least byte first. All these bytes have pages.
     pub fn write_le(&mut self, at: u64, width: u32, value: u64)
         requires width { IsWidth width }
-        requires kept { (k : ℕ) → k < width → is_kept self.old (at + k) ≡ true }
+        requires kept { (k : ℕ) → k < width → IsTrue (is_kept self.old (at + k)) }
         ensures { IsWritten self.old self.new at (low_bytes width value) }
     {
         let Some(spot) = find(&self.places, at) else {
@@ -112,7 +123,7 @@ impl Banks {
         requires width { IsWidth width }
         requires spot { spot_of self.now.places _at ≡ Some spot }
         requires room { width ≤ spot.room }
-        ensures { result ≡ little_endian (map (byte_at self.now) (range_with_len _at width)) }
+        ensures { result ≡ little_endian (bytes_from (byte_at self.now) _at width) }
     {
         match self.directory.get(spot.entry) {
             Some(page) => page.read_le(spot.offset, width),
@@ -122,13 +133,12 @@ impl Banks {
 
     /// A number, byte by byte.
     fn read_across(&self, at: u64, width: u32) -> u64
-        requires width { IsWidth width }
-        requires end { at + width ≤ address_space_end }
-        ensures { result ≡ little_endian (map (byte_at self.now) (range_with_len at width)) }
+        requires { IsWidth width }
+        ensures { result ≡ little_endian (bytes_from (byte_at self.now) at width) }
     {
         let mut value = 0;
         for k in (0..u64::from(width)).rev() {
-            value = value * 256 + self.get(at + k) as u64;
+            value = value * 256 + self.get(at.wrapping_add(k)) as u64;
         }
         value
     }
@@ -138,7 +148,7 @@ impl Banks {
         requires width { IsWidth width }
         requires spot { spot_of self.old.places _at ≡ Some spot }
         requires room { width ≤ spot.room }
-        requires page { is_page self.old.pages spot.entry ≡ true }
+        requires page { IsTrue (is_page self.old.pages spot.entry) }
         ensures { IsWritten self.old self.new _at (low_bytes width value) }
     {
         self.directory.write(spot.entry, spot.offset, width, value);
@@ -147,7 +157,7 @@ impl Banks {
     /// Writes a number byte by byte.
     fn write_across(&mut self, at: u64, width: u32, value: u64)
         requires width { IsWidth width }
-        requires kept { (k : ℕ) → k < width → is_kept self.old (at + k) ≡ true }
+        requires kept { (k : ℕ) → k < width → IsTrue (is_kept self.old (at + k)) }
         requires end { at + width ≤ address_space_end }
         ensures { IsWritten self.old self.new at (low_bytes width value) }
     {

@@ -1,6 +1,6 @@
 use Rattle.std.proofs.Common.{◌+◌, ◌*◌, length, take, sym, ap, ◌∙◌, subst, get_or, arith}
 use Rattle.std.proofs.lemmas.List.{take_more}
-use Rattle.std.proofs.lemmas.List.Sums.{sum_by_more}
+use Rattle.std.proofs.lemmas.List.Sums.{sum_by_more, sum_by-take-le, sum-map}
 use Rattle.bao_types.specs.declared.range.ByteRange.{ByteRange}
 use Rattle.phys_bank.specs.Places.{AreLaid, ranges_of, total_pages, page_count}
 use Rattle.phys_bank.proofs.Laid.{laid-more, next-total, ranges-more, pages-fit}
@@ -15,3 +15,8 @@ loop-bank-preserved c =
       omega (arith, i.3, c.pages-next.ensures, next-total old c.push.new.self.items _ put),
       (let d : ByteRange = record { base = 0; size = 0 } in omega (arith, i.4, c.pages-next.ensures, pages-fit (get_or banks at d).size, sum_by_more (λ (bank : ByteRange). bank.size) banks at d c.loop-bank-test.true)),
     )
+
+pub invariant_of-place-clause-low : goal.invariant_of-place-clause-low
+invariant_of-place-clause-low c =
+    let i = c.loop-bank.invariant in let banks = c.args.banks.now in
+    omega (arith, i.4, c.requires.total, c.requires.count, c.loop-bank-test.true, sum-map (λ (bank : ByteRange). bank.size) banks, sum_by-take-le (λ (bank : ByteRange). bank.size) banks c.loop-bank.bank-index)

@@ -1,8 +1,6 @@
 use Rattle.std.proofs.Common.{sym, ap, ◌∙◌, arith}
-use Rattle.std.specs.List.{range_with_len}
-use Rattle.std.proofs.Common.{map}
 use Rattle.bao_types.specs.Bytes.{little_endian}
-use Rattle.phys_bank.specs.Banks.{byte_at}
+use Rattle.phys_bank.specs.Banks.{byte_at, bytes_from}
 use Rattle.phys_bank.specs.Places.{spot_of}
 use Rattle.phys_bank.proofs.Spots.{spot-places, spot-inside}
 use Rattle.phys_bank.proofs.Kept.{whole-at, number-in_page, number-of_none}
@@ -21,10 +19,10 @@ returns-in-Some c =
     let i = c.self.invariant in let n = c.args.width in let s = c.args.spot in let spot = ap (λ b. spot_of b.places c.args._at) c.self.view_is ∙ c.requires.spot in
     let p = spot-inside c.self.inside.places.items c.args._at s spot in let long = whole-at c.self.inside.directory s.entry c.in-Some.page.now i.whole c.in-Some.ensures in
     c.read_le.ensures ∙ number-in_page (record { places = c.self.inside.places.items; pages = c.self.inside.directory }) c.args._at n s i.apart spot c.requires.room c.in-Some.page.now c.in-Some.ensures (omega (arith, p.0, c.requires.room, long))
-    ∙ ap (λ b. little_endian (map (byte_at b) (range_with_len c.args._at n))) c.self.view_is
+    ∙ ap (λ b. little_endian (bytes_from (byte_at b) c.args._at n)) c.self.view_is
 
 pub returns-in-None : goal.returns-in-None
 returns-in-None c =
     let i = c.self.invariant in let n = c.args.width in let spot = ap (λ b. spot_of b.places c.args._at) c.self.view_is ∙ c.requires.spot in
     number-of_none (record { places = c.self.inside.places.items; pages = c.self.inside.directory }) c.args._at n c.args.spot i.apart spot c.requires.room c.in-None.ensures
-    ∙ ap (λ b. little_endian (map (byte_at b) (range_with_len c.args._at n))) c.self.view_is
+    ∙ ap (λ b. little_endian (bytes_from (byte_at b) c.args._at n)) c.self.view_is

@@ -5,7 +5,8 @@ use Rattle.phys_bank.proofs.Kept.{written-more}
 use Rattle.phys_bank.proofs.banks.Banks.write_across.Goals as goal
 
 pub set-requires : goal.set-requires
-set-requires c = let i = c.loop-k.invariant in i.0.kept (c.args.at + c.loop-k.k) ∙ c.requires.kept c.loop-k.k (omega arith)
+set-requires c =
+    let i = c.loop-k.invariant in let at = c.args.at + c.loop-k.k in ap (λ kept. kept at) i.0.kept ∙ c.requires.kept c.loop-k.k (omega arith)
 
 pub loop-k-preserved : goal.loop-k-preserved
 loop-k-preserved c =
