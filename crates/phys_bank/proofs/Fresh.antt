@@ -1,20 +1,18 @@
 -- Banks as they are made.
-use Rattle.std.proofs.Common.{◌≡◌, ℕ, suc, ◌+◌, ◌-◌, ◌*◌, ◌/◌, ◌<◌, ◌≤◌, ◌⊎◌, inl, inr, Bool, true, false, List, [], ◌∷◌, Option, Some, None, length, replicate, slice_get, slice_index, map, refl, sym, ap, ◌∙◌, subst, arith}
-use Rattle.std.specs.Prelude.{IfSome, is_some, IsTrue, All, ◌||◌, ◌&&◌, if◌then◌else◌}
+use Rattle.std.proofs.Common.{◌≡◌, ℕ, suc, ◌+◌, ◌-◌, ◌*◌, ◌/◌, ◌<◌, ◌≤◌, Bool, true, false, List, [], ◌∷◌, Option, Some, slice_get, refl, sym, ap, subst, arith}
+use Rattle.std.specs.Prelude.{IsTrue, All, ◌||◌, if◌then◌else◌}
 use Rattle.std.specs.List.{list_any}
-use Rattle.std.proofs.lemmas.List.{get_or-replicate, get_or_past, length-replicate}
 use Rattle.std.proofs.lemmas.Bool.Decides.{nat_tests}
 use Rattle.std.proofs.lemmas.List.Elements.{All-head, All-tail}
 use Rattle.bao_types.specs.declared.range.ByteRange.{ByteRange}
 use Rattle.bao_types.specs.ByteRange.{is_within, is_in_one, overlaps, lies_in}
 use Rattle.bao_types.proofs.Ranges.{is_within-bounds, is_within-between}
 use Rattle.phys_bank.specs.declared.bank_place.BankPlace.{BankPlace}
-use Rattle.phys_bank.specs.declared.place.Spot.{Spot}
-use Rattle.phys_bank.specs.Banks.{byte_in, has_page, page_byte}
-use Rattle.phys_bank.specs.Directory.{page_at, is_page}
-use Rattle.phys_bank.specs.Filled.{IsZeroPage, HasZeroPages, IsFilled, IsEmptyFrom}
+use Rattle.phys_bank.specs.Banks.{has_page}
+use Rattle.phys_bank.specs.Directory.{is_page}
+use Rattle.phys_bank.specs.Filled.{IsFilled}
 use Rattle.phys_bank.specs.Pages.{page_number, page_of, is_in_use, is_one_in_use, shares_page}
-use Rattle.phys_bank.specs.Places.{page_size, page_count, spot_in, spot_of, ranges_of}
+use Rattle.phys_bank.specs.Places.{page_size, spot_in, spot_of, ranges_of}
 use Rattle.phys_bank.proofs.Spots.{within_pages, from_base}
 
 -- the pages that are made are those in which some byte is in use

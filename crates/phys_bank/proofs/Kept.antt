@@ -1,5 +1,5 @@
 -- The bytes of the banks are those of the pages that are there.
-use Rattle.std.proofs.Common.{◌≡◌, ◌≢◌, ℕ, zero, suc, ◌+◌, ◌-◌, ◌*◌, ◌%◌, ◌^◌, ◌<◌, ◌≤◌, ◌⊎◌, inl, inr, Bool, true, List, [], ◌∷◌, ◌++◌, Option, Some, None, length, length-append, take, drop, map, set, slice_index, slice_range, subst, refl, sym, ap, ◌∙◌, arith, drop-cons}
+use Rattle.std.proofs.Common.{◌≡◌, ◌≢◌, ℕ, zero, suc, ◌+◌, ◌-◌, ◌*◌, ◌%◌, ◌^◌, ◌<◌, ◌≤◌, ◌⊎◌, inl, inr, true, List, [], ◌∷◌, ◌++◌, Option, Some, None, length, length-append, take, drop, set, slice_index, slice_range, subst, refl, sym, ap, ◌∙◌, arith, drop-cons}
 use Rattle.std.specs.Prelude.{IfSome, is_some}
 use Rattle.std.proofs.Math.Nat.{mod-add-mod}
 use Rattle.std.proofs.lemmas.Bool.{cases_eq}
@@ -9,9 +9,9 @@ use Rattle.bao_types.specs.Bytes.{little_endian, next_address}
 use Rattle.phys_memory.proofs.Runs.{length-put, slice_index-put_before, slice_index-put_inside, slice_index-put_behind}
 use Rattle.phys_bank.specs.declared.bank_place.BankPlace.{BankPlace}
 use Rattle.phys_bank.specs.declared.place.Spot.{Spot}
-use Rattle.phys_bank.specs.Banks.{BanksData, page_byte, byte_in, byte_at, bytes_from, has_page, is_kept, IsWritten, IsBanks}
-use Rattle.phys_bank.specs.Directory.{page_at, is_page}
-use Rattle.phys_bank.specs.Places.{page_size, spot_of, ranges_of, total_pages, AreApart, AreLaid}
+use Rattle.phys_bank.specs.Banks.{BanksData, page_byte, byte_in, byte_at, bytes_from, has_page, is_kept, IsWritten}
+use Rattle.phys_bank.specs.Directory.{page_at}
+use Rattle.phys_bank.specs.Places.{page_size, spot_of, ranges_of, AreApart, AreLaid}
 use Rattle.phys_bank.proofs.Spots.{spot-below, same-page, spot-follows}
 
 -- each page that is there has all its bytes

@@ -1,10 +1,10 @@
 -- What the places of bytes say of each other.
-use Rattle.std.proofs.Common.{◌≡◌, ℕ, zero, suc, ◌+◌, ◌-◌, ◌*◌, ◌/◌, ◌%◌, ◌<◌, ◌≤◌, ◌⊎◌, inl, inr, Bool, true, false, List, [], ◌∷◌, Option, Some, None, map, length, min, refl, sym, ap, ◌∙◌, subst, arith}
+use Rattle.std.proofs.Common.{◌≡◌, ℕ, suc, ◌+◌, ◌-◌, ◌/◌, ◌%◌, ◌<◌, ◌≤◌, ◌⊎◌, inl, inr, Bool, true, false, List, [], ◌∷◌, Some, None, min, refl, sym, ap, ◌∙◌, arith}
 use Rattle.std.specs.Prelude.{All, IsFalse, if◌then◌else◌}
 use Rattle.std.proofs.lemmas.Bool.Decides.{nat_tests}
 use Rattle.std.proofs.lemmas.List.Sums.{sum_by-cons}
 use Rattle.bao_types.specs.declared.range.ByteRange.{ByteRange}
-use Rattle.bao_types.specs.ByteRange.{end, is_within, overlaps, address_space_end}
+use Rattle.bao_types.specs.ByteRange.{is_within, overlaps, address_space_end}
 use Rattle.bao_types.proofs.Ranges.{is_within-bounds, is_within-between}
 use Rattle.phys_bank.specs.declared.bank_place.BankPlace.{BankPlace}
 use Rattle.phys_bank.specs.declared.place.Spot.{Spot}

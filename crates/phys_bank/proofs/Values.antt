@@ -10,9 +10,9 @@ use mir.Syntax.{impl, tnil, dnil}
 use mir.Raw.{raw as bare}
 use mir.Val.{Val, vptr, vstruct, vcons, vnil, of_list, has_ty, WT}
 use mathlib.Core.Bool.{◌&&◌, true}
-use base.Logic.{ent, guard, never, via, fst∗, snd∗, guard_i}
-use base.Fml.{Lft, ftrue}
-use contract.Monad.{fact, fact_use}
+use base.Logic.{never, via, fst∗, snd∗, guard_i}
+use base.Fml.{Lft}
+use contract.Monad.{fact_use}
 use types.Logic.{Logic, sem}
 use types.Kit.{Item, Goal, Seq, Step, step, ‵, given, learn, use1, ◌$◌, move, drop, fsplit, fjoin, fpick, fpack, feq_i, feq_l}
 use denote.RattleType.{RattleType, Valss}

@@ -1,6 +1,6 @@
 -- Where the byte at an address lies among the pages of the banks. Each bank has pages of its own, the first one from the
 -- bank's base on, and they have consecutive places in the directory.
-use Rattle.std.specs.Prelude.{◌≡◌, ℕ, ◌+◌, ◌-◌, ◌*◌, ◌/◌, ◌%◌, min, IsFalse, if◌then◌else◌, List, [], ◌∷◌, map, Option, Some, None, sum_by}
+use Rattle.std.specs.Prelude.{◌≡◌, ℕ, ◌+◌, ◌-◌, ◌/◌, ◌%◌, min, IsFalse, if◌then◌else◌, List, [], ◌∷◌, map, Option, Some, None, sum_by}
 use Rattle.std.specs.List.{AllPairs}
 use Rattle.bao_types.specs.declared.range.ByteRange.{ByteRange}
 use Rattle.bao_types.specs.ByteRange.{is_within, overlaps}

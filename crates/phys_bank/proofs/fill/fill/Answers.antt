@@ -1,9 +1,8 @@
-use Rattle.std.proofs.Common.{◌≡◌, ◌≢◌, ℕ, ◌+◌, ◌<◌, ◌≤◌, inl, inr, length, take, refl, sym, ap, ◌∙◌, arith, subst, get_or}
+use Rattle.std.proofs.Common.{◌≡◌, ◌+◌, inl, inr, sym, ap, ◌∙◌, arith, subst, get_or}
 use Rattle.std.specs.Prelude.{is_some}
 use Rattle.std.proofs.lemmas.Bool.{cases_eq}
 use Rattle.std.proofs.lemmas.Option.{get_or_from_slice_get, slice_get_within}
 use Rattle.phys_bank.specs.Filled.{IsFilled}
-use Rattle.phys_bank.specs.declared.bank_place.BankPlace.{BankPlace}
 use Rattle.phys_bank.proofs.Laid.{first-at, total-up_to, total-at_most, laid-before}
 use Rattle.phys_bank.proofs.fill.fill.Goals as goal
 

@@ -1,8 +1,8 @@
-use Rattle.std.proofs.Common.{◌+◌, ◌*◌, length, take, sym, ap, ◌∙◌, subst, get_or, arith}
+use Rattle.std.proofs.Common.{◌+◌, take, sym, ap, ◌∙◌, subst, get_or, arith}
 use Rattle.std.proofs.lemmas.List.{take_more}
 use Rattle.std.proofs.lemmas.List.Sums.{sum_by_more, sum_by-take-le, sum-map}
 use Rattle.bao_types.specs.declared.range.ByteRange.{ByteRange}
-use Rattle.phys_bank.specs.Places.{AreLaid, ranges_of, total_pages, page_count}
+use Rattle.phys_bank.specs.Places.{AreLaid, ranges_of}
 use Rattle.phys_bank.proofs.Laid.{laid-more, next-total, ranges-more, pages-fit}
 use Rattle.phys_bank.proofs.layout.lay_out.Goals as goal
 

@@ -1,4 +1,4 @@
-use Rattle.std.proofs.Common.{Some, sym, ap, ◌∙◌, arith}
+use Rattle.std.proofs.Common.{sym, ap, ◌∙◌, arith}
 use Rattle.phys_bank.specs.Places.{spot_of}
 use Rattle.phys_bank.proofs.Spots.{spot-places, spot-inside}
 use Rattle.phys_bank.proofs.Kept.{whole-at}

@@ -1,4 +1,4 @@
-use Rattle.std.proofs.Common.{sym, ap, ◌∙◌, arith}
+use Rattle.std.proofs.Common.{ap, ◌∙◌, arith}
 use Rattle.bao_types.specs.Bytes.{little_endian}
 use Rattle.phys_bank.specs.Banks.{byte_at, bytes_from}
 use Rattle.phys_bank.specs.Places.{spot_of}

@@ -1,4 +1,4 @@
-use Rattle.std.proofs.Common.{◌≡◌, ℕ, ◌+◌, ◌<◌, ◌≤◌, List, Option, length, sym, ap, ◌∙◌, subst, arith, length-set}
+use Rattle.std.proofs.Common.{ℕ, ◌+◌, ◌<◌, ◌≤◌, List, Option, length, sym, ap, ◌∙◌, subst, arith, length-set}
 use Rattle.bao_types.specs.Bytes.{low_bytes}
 use Rattle.phys_memory.proofs.Numbers.{length-low_bytes}
 use Rattle.phys_bank.specs.Banks.{BanksData, IsWritten}

@@ -1,4 +1,4 @@
-use Rattle.std.proofs.Common.{◌≡◌, ℕ, ◌+◌, ◌++◌, List, Some, length, take, drop, sym, ap, ◌∙◌, arith}
+use Rattle.std.proofs.Common.{◌≡◌, ◌+◌, ◌++◌, Some, length, take, drop, sym, ap, ◌∙◌, arith}
 use Rattle.core.specs.Mem.Slots.{slots_items}
 use Rattle.bao_types.specs.Bytes.{low_bytes}
 use Rattle.phys_bank.proofs.Pages.{held_by_all, length-held, pages-put, page-taken, same_page}

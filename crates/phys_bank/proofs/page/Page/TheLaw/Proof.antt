@@ -3,10 +3,9 @@ use Rattle.std.specs.Prelude.{ℕ, List, Option, Some, None}
 use seplogic.Ra.Ura.{Ura}
 use mir.Raw.{raw as bare}
 use base.Fraction.{full_share}
-use base.Fml.{Lft, ftrue}
+use base.Fml.{ftrue}
 use types.Logic.{Logic}
 use denote.Memory.{lone}
-use denote.Param.Laws.{Laws}
 use denote.Param.Shared.{copy_shared}
 use denote.RawPtr.{Ptr, lies_at}
 use denote.Shares.{Shares-less}

@@ -1,12 +1,11 @@
 -- `get` reads the address, compares it with null, and hands out a `&` to the page behind it.
-use Rattle.std.proofs.Common.{◌≡◌, ℕ, List, [], ◌∷◌, ◌++◌, Option, Some, None, refl, sym, ap, subst, ◌∙◌, lit<}
+use Rattle.std.proofs.Common.{◌≡◌, List, [], ◌∷◌, Some, None, refl, sym, ap, subst, ◌∙◌, lit<}
 use mir.Syntax.{named}
 use mir.Val.{Val, vptr, vcons, vnil}
 use base.Logic.{SProp, emp}
 use base.Fml.{Lft, Share, ftrue, fhide, flft}
-use prog.Wp.{WpFn}
 use types.Logic.{Logic}
-use types.Kit.{‵, raw, ◌⊛◌, at_ret, ◌$◌, ◌∵◌, !, qed, by, move, keep, drop, split, join, fsplit, fjoin, suffices, rewrite, use0, use1, feq_i}
+use types.Kit.{‵, raw, ◌⊛◌, at_ret, ◌$◌, ◌∵◌, !, qed, by, move, keep, drop, split, join, fsplit, fjoin, rewrite, use0, use1, feq_i}
 use types.Run.{stop, fld, hop, lit, addr, load, of_opd, bin, no_more, and_then, first, blocks, branches, skips, exec, returns, returns_within, enter}
 use types.ByLocal.{alloc_all, pass_all, free_all, look_at, get, through, sets, sets_last, env}
 use types.Part.{agg, sub, whole, look_in}

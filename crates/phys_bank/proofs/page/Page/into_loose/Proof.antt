@@ -1,22 +1,18 @@
 -- `into_loose` compares the address with null, and puts the handle beside it where there is a page.
-use Rattle.std.proofs.Common.{◌≡◌, ℕ, List, [], ◌∷◌, ◌++◌, Option, Some, None, refl, sym, ap, subst, ◌∙◌, lit<}
-use mir.Val.{Val, vptr, vnull, vcons, vnil}
-use base.Logic.{SProp, ent, emp, id⊢, never, fst∗}
-use base.Fml.{ftrue}
+use Rattle.std.proofs.Common.{◌≡◌, List, [], ◌∷◌, ◌++◌, Some, None, refl, sym, ap, subst, ◌∙◌, lit<}
+use mir.Val.{Val, vcons, vnil}
+use base.Logic.{SProp, ent, emp, id⊢}
 use prog.Wp.{WpFn}
-use types.Logic.{sem}
-use types.Kit.{‵, raw, ◌⊛◌, at_ret, ◌$◌, ◌∵◌, !, qed, by, move, keep, drop, split, fsplit, fjoin, suffices, rewrite, use0, use1}
+use types.Kit.{‵, raw, ◌⊛◌, at_ret, ◌$◌, ◌∵◌, !, qed, by, move, keep, split, fsplit, fjoin, suffices, rewrite, use0, use1}
 use types.Run.{stop, fld, lit, of_opd, bin, no_more, and_then, first, branches, skips, exec, returns, returns_within, enter}
 use types.ByLocal.{alloc_all, pass_all, free_all, look_at, get, get_in, sets, env}
 use types.Part.{agg, sub, whole}
 use types.Match.{live}
-use mir.Raw.{raw as bare}
 use contract.Monad.{fact, fact_i}
 use contract.Running.{tables}
-use denote.Memory.{lone}
 use denote.Param.{layout}
 use denote.RattleType.{RattleType, owns}
-use denote.RawPtr.{Ptr, block_ptr, null_ptr, ptr_val, tests_null, in_a_block, Testable}
+use denote.RawPtr.{Ptr, block_ptr, null_ptr, tests_null, Testable}
 use denote.Signature.{types_at, type_at, plain}
 use denote.Steps.{nothing}
 use denote.Triple.Entry.{alive}
@@ -31,9 +27,7 @@ use Rattle.std.specs.contracts.impls.GlobalAllocator.TheImpl.{ghosts}
 use Rattle.std_alloc.proofs.RcSteps.{word, word-Good}
 use Rattle.std_alloc.proofs.ResultValues.{and_tt}
 use Rattle.std.proofs.raw_atomic.Walks.{proved_at, leaves}
-use Rattle.libc.specs.Heap.{chunk}
-use Rattle.std_alloc.specs.Box.Ownership.{box_owns}
-use Rattle.phys_bank.specs.Ownership.{Block, page_owns}
+use Rattle.phys_bank.specs.Ownership.{Block}
 use Rattle.phys_bank.proofs.Values.{Slot, Loose, held_by, loose_good, loose_in, page_out, by_page}
 use Rattle.phys_bank.specs.contracts.page.Page.into_loose as f
 use Rattle.phys_bank.proofs.page.Page.into_loose.Statement.{statement}

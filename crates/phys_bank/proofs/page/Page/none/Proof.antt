@@ -2,8 +2,7 @@
 use Rattle.std.proofs.Common.{◌≡◌, [], ◌∷◌, None, refl, lit<}
 use mir.Val.{Val}
 use base.Logic.{SProp}
-use prog.Wp.{WpFn}
-use types.Kit.{raw, ◌⊛◌, ◌$◌, ◌∵◌, !, qed, by, move, keep, split, drop, use0}
+use types.Kit.{raw, ◌⊛◌, ◌$◌, ◌∵◌, !, qed, by, keep, split, use0}
 use types.Run.{lit, no_more, and_then, returns, enter}
 use types.ByLocal.{alloc_all, free_all, look_at, pass_all, sets}
 use types.Part.{agg}
@@ -12,9 +11,7 @@ use contract.Running.{tables}
 use base.Logic.{emp}
 use base.Fml.{ftrue}
 use types.Kit.{‵}
-use denote.RattleType.{owns}
 use denote.RawPtr.{null_ptr}
-use denote.Signature.{types_at}
 use denote.Steps.{nothing}
 use denote.Triple.Entry.{alive}
 use denote.Triple.Walked.{Stays, walk_of}
