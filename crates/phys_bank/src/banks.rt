@@ -1,5 +1,5 @@
 //! `Banks` and its calls.
-ghost use Rattle.std.specs.Prelude.{◌≡◌, ℕ, ◌+◌, ◌<◌, ◌≤◌, [], ◌∷◌, All, Some, map, length, sum, IsTrue, IsFalse, IfOk};
+ghost use Rattle.std.specs.Prelude.{◌≡◌, ℕ, ◌+◌, ◌^◌, ◌<◌, ◌≤◌, [], ◌∷◌, All, Some, map, length, sum, IsTrue, IsFalse, IfOk};
 ghost use Rattle.std.specs.List.{AllPairs, list_any};
 ghost use Rattle.bao_types.specs.ByteRange.{address_space_end, end, is_in_one, lies_in, overlaps};
 ghost use Rattle.bao_types.specs.Bytes.{IsWidth, little_endian, low_bytes};
@@ -92,7 +92,8 @@ impl Banks {
     /// The `width` bytes from `at` on, as a number whose least byte comes first. Addresses wrap at 2^64.
     pub fn read_le(&self, at: u64, width: u32) -> u64
         requires { IsWidth width }
-        ensures { result ≡ little_endian (bytes_from (byte_at self.now) at width) }
+        ensures value { result ≡ little_endian (bytes_from (byte_at self.now) at width) }
+        ensures bound { result < 256 ^ width }
     {
         if let Some(spot) = find(&self.places, at) {
             if u64::from(width) <= spot.room {
@@ -123,7 +124,8 @@ impl Banks {
         requires width { IsWidth width }
         requires spot { spot_of self.now.places _at ≡ Some spot }
         requires room { width ≤ spot.room }
-        ensures { result ≡ little_endian (bytes_from (byte_at self.now) _at width) }
+        ensures value { result ≡ little_endian (bytes_from (byte_at self.now) _at width) }
+        ensures bound { result < 256 ^ width }
     {
         match self.directory.get(spot.entry) {
             Some(page) => page.read_le(spot.offset, width),
@@ -134,7 +136,8 @@ impl Banks {
     /// A number, byte by byte.
     fn read_across(&self, at: u64, width: u32) -> u64
         requires { IsWidth width }
-        ensures { result ≡ little_endian (bytes_from (byte_at self.now) at width) }
+        ensures value { result ≡ little_endian (bytes_from (byte_at self.now) at width) }
+        ensures bound { result < 256 ^ width }
     {
         let mut value = 0;
         for k in (0..u64::from(width)).rev() {
