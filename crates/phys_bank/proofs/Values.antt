@@ -32,12 +32,11 @@ use Rattle.core.proofs.cell.Inside.{Good}
 use Rattle.std.proofs.GlobalToken.{dealloc_token-Testable}
 use Rattle.std.specs.contracts.alloc.Global as heap
 use Rattle.std.specs.contracts.impls.GlobalAllocator.TheImpl.{ghosts}
-use Rattle.libc.specs.Heap.{chunk}
 use Rattle.std_alloc.specs.Box.Ownership.{box_owns}
 use Rattle.std_alloc.proofs.RcSteps.{word}
 use Rattle.std_alloc.proofs.ResultValues.{and_tt}
 use Rattle.phys_memory.proofs.Memory.{word_had, word_made}
-use Rattle.phys_bank.specs.Ownership.{Block, page_owns, page_lent}
+use Rattle.phys_bank.specs.Ownership.{Block, heap_token, page_owns, page_lent}
 use Rattle.phys_bank.specs.contracts.loose.Loose as loose
 use Rattle.phys_bank.specs.contracts.page.Page as page
 
@@ -57,12 +56,12 @@ module _ {M : Type 1} {𝓤 : Ura M} {𝓛 : Logic 𝓤} {K : Type 0} {Γ : List
 
   -- there is no page and the address is null, or there is one in a block
   pub by_page : K → (d : Slot.Denot) → (d.held ≡ None → d.at ≡ null_ptr → Seq K 𝓛 Γ G)
-      → ((b o : ℕ) (bytes : List ℕ) → d.held ≡ Some bytes → d.at ≡ block_ptr b o → Seq K 𝓛 (‵ (box_owns chunk Block (block_ptr b o) bytes) ∷ Γ) G) → Seq K 𝓛 (‵ (page_owns d.at d.held) ∷ Γ) G
+      → ((b o : ℕ) (bytes : List ℕ) → d.held ≡ Some bytes → d.at ≡ block_ptr b o → Seq K 𝓛 (‵ (box_owns heap_token Block (block_ptr b o) bytes) ∷ Γ) G) → Seq K 𝓛 (‵ (page_owns d.at d.held) ∷ Γ) G
   by_page t d none some = either d.held refl
     where
       either : (held : Option (List ℕ)) → d.held ≡ held → Seq K 𝓛 (‵ (page_owns d.at held) ∷ Γ) G
       either None is = drop t $ none is (d.null is)
-      either (Some bytes) is = in_a_block t d.at (λ p. box_owns chunk Block p bytes) (fst∗ 𝓤 (never 𝓤) (sem 𝓛 (chunk (bare (lone Block.mir)) null_ptr))) (λ b o at. some b o bytes is at)
+      either (Some bytes) is = in_a_block t d.at (λ p. box_owns heap_token Block p bytes) (fst∗ 𝓤 (never 𝓤) (sem 𝓛 (heap_token (bare (lone Block.mir)) null_ptr))) (λ b o at. some b o bytes is at)
 
   -- the same behind a `&`
   pub by_lent : K → (κ : Lft) (d : Slot.Denot) → (d.held ≡ None → d.at ≡ null_ptr → Seq K 𝓛 Γ G)

@@ -5,9 +5,14 @@ use denote.RattleType.{RattleType}
 use denote.RawPtr.{Ptr}
 use denote.Sharing.{nothing}
 use denote.Struct.Lending.{lent_at}
-use Rattle.libc.specs.Heap.{chunk}
+use mir.Syntax.{Ty}
+use Rattle.std.specs.contracts.impls.GlobalAllocator.TheImpl.{ghosts}
 use Rattle.std_alloc.specs.Box.Ownership.{box_owns}
 use Rattle.phys_memory.specs.contracts.phys.Phys.{the_row}
+
+-- the right to free a block of the heap, whose handle is one value
+abbrev pub heap_token : Ty → Ptr → Fml
+heap_token = ghosts.dealloc_token (record { memory = record { seal = tt } })
 
 -- a page as it lies in memory; a contract sees it as the list of its bytes
 abbrev pub Block : RattleType
@@ -16,7 +21,7 @@ Block = the_row
 -- the page at the address, and the right to free it
 abbrev pub page_owns : Ptr → Option (List ℕ) → Fml
 page_owns at None = ftrue
-page_owns at (Some bytes) = box_owns chunk Block at bytes
+page_owns at (Some bytes) = box_owns heap_token Block at bytes
 
 -- what a `&` to it reaches
 abbrev pub page_lent : Ptr → Option (List ℕ) → Lft → Fml

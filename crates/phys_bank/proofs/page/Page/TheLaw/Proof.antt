@@ -14,9 +14,8 @@ use denote.SharingLaws.{nothing_shr_laws}
 use denote.Struct.Field.{RawPtr-field}
 use denote.Struct.Laws.{RawPtr-copy}
 use denote.Struct.Lending.{of_Lends, lent_at, lent_at_shr_laws, Lends, Lends-first, Lends-lies, Lends-nothing}
-use Rattle.libc.specs.Heap.{chunk}
 use Rattle.phys_memory.proofs.phys.Phys.TheLaws.{the_row_laws}
-use Rattle.phys_bank.specs.Ownership.{Block, page_owns, page_lent}
+use Rattle.phys_bank.specs.Ownership.{Block, heap_token, page_owns, page_lent}
 use Rattle.phys_bank.specs.contracts.page.Page as C
 use Rattle.phys_bank.proofs.page.Page.TheLaw.Statement.{statement}
 
@@ -28,7 +27,7 @@ module _ {M : Type 1} {𝓤 : Ura M} (𝓛 : Logic 𝓤) where
   lends : (at : Ptr) (held : Option (List ℕ)) → Lends 𝓛 (page_owns at held) (page_lent at held) C.the_row.lives
   lends at None = Lends-nothing 𝓛 ftrue C.the_row.lives
   lends at (Some bytes) =
-      Lends-first 𝓛 (lies_at Block full_share at bytes) (chunk (bare (lone Block.mir)) at) (lent_at Block at bytes) C.the_row.lives
+      Lends-first 𝓛 (lies_at Block full_share at bytes) (heap_token (bare (lone Block.mir)) at) (lent_at Block at bytes) C.the_row.lives
       (Lends-lies 𝓛 Block C.the_row.lives at bytes (Shares-less 𝓛 Block Block.lives C.the_row.lives (λ a m. m) (the_row_laws.shares 𝓛) bytes))
 
 pub shares : statement
