@@ -1,5 +1,5 @@
 //! `Phys` and its calls. A clause sees a block as the list of its bytes.
-ghost use Rattle.std.specs.Prelude.{◌≡◌, ℕ, ◌+◌, ◌<◌, ◌≤◌, ◌++◌, length, take, drop, slice_index, slice_set, slice_range, IfOk};
+ghost use Rattle.std.specs.Prelude.{◌≡◌, ℕ, ◌+◌, ◌^◌, ◌<◌, ◌≤◌, ◌++◌, length, take, drop, slice_index, slice_set, slice_range, IfOk};
 ghost use Rattle.bao_types.specs.Bytes.{IsWidth, little_endian, low_bytes};
 
 use crate::block::{allocate, deallocate};
@@ -91,7 +91,8 @@ impl Phys {
     pub fn read_le(&self, at: u64, width: u32) -> u64
         requires width { IsWidth width }
         requires range { at + width ≤ length self.now }
-        ensures { result ≡ little_endian (slice_range self.now at (at + width)) }
+        ensures value { result ≡ little_endian (slice_range self.now at (at + width)) }
+        ensures bound { result < 256 ^ width }
     {
         // So no sum of places wraps.
         prove!(at <= self.len());
