@@ -1,0 +1,4 @@
+pub mod Frame
+pub mod Registers
+pub mod Effects
+pub mod Fits

@@ -1,0 +1,16 @@
+//! The emulated interrupt controller of a VM: the frames of its distributor and redistributors, and what an access there
+//! reads and changes (GICv3, GICD_ and GICR_ registers).
+//!
+//! It works on the VM's table alone, `vgic_table`: the list registers are taken back to it before, by the layers above.
+#![tactic(auto)]
+
+pub use access::emulate;
+pub use place::{FramePlace, frame};
+pub use register::{Flag, Register};
+
+mod access;
+mod place;
+mod register;
+mod words;
+#[cfg(test)]
+mod tests;
