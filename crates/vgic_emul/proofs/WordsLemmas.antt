@@ -74,6 +74,6 @@ with_priorities-none vm core value first = refl
 pub with_priorities-more : (vm : Interrupts) (core value first count : ℕ) →
     with_priorities vm core value first (count + 1)
     ≡ changed (with_priorities vm core value first count) core (first + count)
-        (λ state. record state { priority = value / 2 ^ (8 * count) % 256 })
+    (λ state. record state { priority = value / 2 ^ (8 * count) % 256 })
 unfolding with_priorities
 with_priorities-more vm core value first count = rw add-one refl

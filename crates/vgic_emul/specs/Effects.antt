@@ -47,7 +47,7 @@ unfoldable pub with_priorities : Interrupts → ℕ → ℕ → ℕ → ℕ → 
 with_priorities vm core value first zero = vm
 with_priorities vm core value first (suc count) =
     changed (with_priorities vm core value first count) core (first + count)
-      (λ state. record state { priority = value / 2 ^ (8 * count) % 256 })
+    (λ state. record state { priority = value / 2 ^ (8 * count) % 256 })
 
 -- GICR_TYPER: the core's affinity, its number, and whether it is the VM's last
 abbrev pub core_type : Interrupts → ℕ → ℕ

@@ -53,7 +53,9 @@ fn offset_of(place: FramePlace) -> u32
     ensures { result ≡ offset_of place }
 {
     match place {
-        FramePlace::Dist { offset } | FramePlace::Redist { offset, .. } | FramePlace::Sgi { offset, .. } => offset,
+        FramePlace::Dist { offset }
+        | FramePlace::Redist { offset, .. }
+        | FramePlace::Sgi { offset, .. } => offset,
     }
 }
 
@@ -86,7 +88,14 @@ fn read_register(table: &IrqTable, core: u8, offset: u32, width: u32, register: 
 }
 
 /// What a write of a register keeps.
-fn write_register(table: &mut IrqTable, core: u8, offset: u32, width: u32, register: Register, value: u64)
+fn write_register(
+    table: &mut IrqTable,
+    core: u8,
+    offset: u32,
+    width: u32,
+    register: Register,
+    value: u64,
+)
     requires core { core < 8 }
     requires fits { Fits offset width register }
     ensures { table.new ≡ written table.old core offset width value register }
@@ -94,8 +103,14 @@ fn write_register(table: &mut IrqTable, core: u8, offset: u32, width: u32, regis
     match register {
         Register::Control => table.set_on(value / 2 % 2 == 1),
         Register::DistributorType | Register::CoreType => {}
-        Register::Flags { flag, sets } => write_flags(table, core, flag, sets, value, first_flagged(offset)),
-        Register::Priorities => write_priorities(table, core, value, prioritised(offset), width as u16),
+        Register::Flags { flag, sets } => {
+            let first = first_flagged(offset);
+            write_flags(table, core, flag, sets, value, first);
+        }
+        Register::Priorities => {
+            let first = prioritised(offset);
+            write_priorities(table, core, value, first, width as u16);
+        }
     }
 }
 
@@ -116,7 +131,11 @@ fn part(register: u64, first: u32, width: u32) -> u64
     ensures { result ≡ part register first width }
 {
     let above = register >> (8 * first);
-    if width < 8 { above % (1 << (8 * width)) } else { above }
+    if width < 8 {
+        above % (1 << (8 * width))
+    } else {
+        above
+    }
 }
 
 /// The id of bit 0 of a register of flags.

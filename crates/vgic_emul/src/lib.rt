@@ -11,6 +11,6 @@ pub use register::{Flag, Register};
 mod access;
 mod place;
 mod register;
-mod words;
 #[cfg(test)]
 mod tests;
+mod words;

@@ -39,13 +39,14 @@ impl Flag {
     }
 
     /// The id with the flag on or off.
-    pub(crate) fn turned(self, on: bool, state: IdState) -> IdState
+    pub(crate) fn turned(self, on: bool, mut state: IdState) -> IdState
         ensures { result ≡ with_flag self on state }
     {
         match self {
-            Flag::Enabled => IdState { enabled: on, ..state },
-            Flag::Pending => IdState { pending: on, ..state },
+            Flag::Enabled => state.enabled = on,
+            Flag::Pending => state.pending = on,
         }
+        state
     }
 }
 

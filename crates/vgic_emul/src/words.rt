@@ -20,7 +20,14 @@ pub(crate) fn flag_bits(table: &IrqTable, core: u8, flag: Flag, first: u16) -> u
 }
 
 /// Turns the flag on or off for those of 32 ids from the first on whose bit is set.
-pub(crate) fn write_flags(table: &mut IrqTable, core: u8, flag: Flag, on: bool, value: u64, first: u16)
+pub(crate) fn write_flags(
+    table: &mut IrqTable,
+    core: u8,
+    flag: Flag,
+    on: bool,
+    value: u64,
+    first: u16,
+)
     requires core { core < 8 }
     requires first { first ≤ 64 }
     ensures { table.new ≡ with_flags table.old core flag on value first 32 }

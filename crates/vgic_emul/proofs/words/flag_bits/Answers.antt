@@ -23,11 +23,12 @@ loop-bit-preserved c =
     let first = c.args.first in
     let bit = c.loop-bit.bit in
     elim c.if-is_on.branch [
-      then-is_on w ↦
-        let on : has flag (state_of vm core (first + bit)) ≡ true = cc in
-        let more = flag_bits-on vm core flag first bit on in
-        omega (arith, more, one_shl bit 64 (omega arith), w.value-is, c.loop-bit.invariant)
-    | else-is_on w ↦
-        let off : has flag (state_of vm core (first + bit)) ≡ false = cc in
-        let more = flag_bits-off vm core flag first bit off in
-        omega (arith, more, w.value-is, c.loop-bit.invariant) ]
+      | then-is_on w ↦
+          let on : has flag (state_of vm core (first + bit)) ≡ true = cc in
+          let more = flag_bits-on vm core flag first bit on in
+          omega (arith, more, one_shl bit 64 (omega arith), w.value-is, c.loop-bit.invariant)
+      | else-is_on w ↦
+          let off : has flag (state_of vm core (first + bit)) ≡ false = cc in
+          let more = flag_bits-off vm core flag first bit off in
+          omega (arith, more, w.value-is, c.loop-bit.invariant)
+    ]

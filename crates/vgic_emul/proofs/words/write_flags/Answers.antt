@@ -10,9 +10,10 @@ pub loop-bit-preserved : goal.loop-bit-preserved
 loop-bit-preserved c =
     let vm = c.args.table.now in
     elim c.if-value-bit-eq1.branch [
-      then-value-bit-eq1 w ↦
-        let more = with_flags-set vm c.args.core c.args.flag c.args.on c.args.value c.args.first c.loop-bit.bit w.if-value-bit-eq1.true in
-        cc more
-    | else-value-bit-eq1 w ↦
-        let more = with_flags-clear vm c.args.core c.args.flag c.args.on c.args.value c.args.first c.loop-bit.bit w.if-value-bit-eq1.false in
-        cc more ]
+      | then-value-bit-eq1 w ↦
+          let more = with_flags-set vm c.args.core c.args.flag c.args.on c.args.value c.args.first c.loop-bit.bit w.if-value-bit-eq1.true in
+          cc more
+      | else-value-bit-eq1 w ↦
+          let more = with_flags-clear vm c.args.core c.args.flag c.args.on c.args.value c.args.first c.loop-bit.bit w.if-value-bit-eq1.false in
+          cc more
+    ]
