@@ -4,9 +4,10 @@ use Rattle.std.specs.Int.{bit_at}
 use Rattle.std.proofs.lemmas.Bool.{ne_eqb}
 use Rattle.std.proofs.lemmas.Nat.{mul-add-lt, pow-add, shl_whole}
 use Rattle.std.proofs.Math.Nat.{pow-suc}
+use Rattle.vgic_table.specs.declared.id_state.IdState.{IdState}
 use Rattle.vgic_table.specs.Interrupts.{Interrupts, state_of}
 use Rattle.vgic_emul.specs.declared.register.Flag.{Flag}
-use Rattle.vgic_emul.specs.Effects.{changed, flag_bits, has, priority_bytes, with_flag, with_flags, with_priorities}
+use Rattle.vgic_emul.specs.Effects.{changed, changed_by_bits, flag_bits, has, priority_bytes, with_priorities}
 
 pub flag_bits-none : (vm : Interrupts) (core : ℕ) (flag : Flag) (first : ℕ) → flag_bits vm core flag first 0 ≡ 0
 unfolding flag_bits
@@ -32,20 +33,25 @@ flag_bits-lt vm core flag first (suc count) = by_test (has flag (state_of vm cor
     by_test true rest = rw pow-suc (omega (arith, rest))
     by_test false rest = rw pow-suc (omega (arith, rest))
 
-pub with_flags-none : (vm : Interrupts) (core : ℕ) (flag : Flag) (on : Bool) (value first : ℕ) → with_flags vm core flag on value first 0 ≡ vm
-unfolding with_flags
-with_flags-none vm core flag on value first = refl
+pub changed_by_bits-none : (vm : Interrupts) (core : ℕ) (change : IdState → IdState) (value first : ℕ) →
+    changed_by_bits vm core change value first 0 ≡ vm
+unfolding changed_by_bits
+changed_by_bits-none vm core change value first = refl
 
-pub with_flags-set : (vm : Interrupts) (core : ℕ) (flag : Flag) (on : Bool) (value first count : ℕ) → bit_at value count ≡ 1 →
-    with_flags vm core flag on value first (count + 1)
-    ≡ changed (with_flags vm core flag on value first count) core (first + count) (with_flag flag on)
-unfolding with_flags
-with_flags-set vm core flag on value first count set = let test : (bit_at value count == 1) ≡ true = eq-eqb _ _ set in rw (add-one, test) refl
+pub changed_by_bits-set : (vm : Interrupts) (core : ℕ) (change : IdState → IdState) (value first count : ℕ) → bit_at value count ≡ 1 →
+    changed_by_bits vm core change value first (count + 1)
+    ≡ changed (changed_by_bits vm core change value first count) core (first + count) change
+unfolding changed_by_bits
+changed_by_bits-set vm core change value first count set =
+    let test : (bit_at value count == 1) ≡ true = eq-eqb _ _ set in
+    rw (add-one, test) refl
 
-pub with_flags-clear : (vm : Interrupts) (core : ℕ) (flag : Flag) (on : Bool) (value first count : ℕ) → bit_at value count ≢ 1 →
-    with_flags vm core flag on value first (count + 1) ≡ with_flags vm core flag on value first count
-unfolding with_flags
-with_flags-clear vm core flag on value first count clear = let test : (bit_at value count == 1) ≡ false = ne_eqb _ _ clear in rw (add-one, test) refl
+pub changed_by_bits-clear : (vm : Interrupts) (core : ℕ) (change : IdState → IdState) (value first count : ℕ) → bit_at value count ≢ 1 →
+    changed_by_bits vm core change value first (count + 1) ≡ changed_by_bits vm core change value first count
+unfolding changed_by_bits
+changed_by_bits-clear vm core change value first count clear =
+    let test : (bit_at value count == 1) ≡ false = ne_eqb _ _ clear in
+    rw (add-one, test) refl
 
 pub priority_bytes-none : (vm : Interrupts) (core first : ℕ) → priority_bytes vm core first 0 ≡ 0
 unfolding priority_bytes

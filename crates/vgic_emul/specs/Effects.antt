@@ -29,12 +29,12 @@ flag_bits vm core flag first zero = 0
 flag_bits vm core flag first (suc count) =
     flag_bits vm core flag first count + (if has flag (state_of vm core (first + count)) then 2 ^ count else 0)
 
--- those of the ids from `first` on, so many, of which the value has the bit have the flag on, or off
-unfoldable pub with_flags : Interrupts → ℕ → Flag → Bool → ℕ → ℕ → ℕ → Interrupts
-with_flags vm core flag on value first zero = vm
-with_flags vm core flag on value first (suc count) =
-    let before = with_flags vm core flag on value first count in
-    if bit_at value count == 1 then changed before core (first + count) (with_flag flag on) else before
+-- those of the ids from `first` on, so many, are changed of which the value has the bit
+unfoldable pub changed_by_bits : Interrupts → ℕ → (IdState → IdState) → ℕ → ℕ → ℕ → Interrupts
+changed_by_bits vm core change value first zero = vm
+changed_by_bits vm core change value first (suc count) =
+    let before = changed_by_bits vm core change value first count in
+    if bit_at value count == 1 then changed before core (first + count) change else before
 
 -- the number whose bytes, so many, are the priorities of the ids from `first` on
 unfoldable pub priority_bytes : Interrupts → ℕ → ℕ → ℕ → ℕ
@@ -78,7 +78,7 @@ abbrev pub written : Interrupts → ℕ → ℕ → ℕ → ℕ → Register →
 written vm core offset width value Control = record vm { on = bit_at value 1 == 1 }
 written vm core offset width value DistributorType = vm
 written vm core offset width value CoreType = vm
-written vm core offset width value (Flags flag sets) = with_flags vm core flag sets value (first_flagged offset) 32
+written vm core offset width value (Flags flag sets) = changed_by_bits vm core (with_flag flag sets) value (first_flagged offset) 32
 written vm core offset width value Priorities = with_priorities vm core value (prioritised offset) width
 
 -- the answer of an access: 0 for a write, and where there is no register

@@ -2,3 +2,4 @@ pub mod Frame
 pub mod Registers
 pub mod Effects
 pub mod Fits
+pub mod Laws

@@ -5,10 +5,12 @@
 #![tactic(auto)]
 
 pub use access::emulate;
+pub use law::an_access_is_its_vms_alone;
 pub use place::{FramePlace, frame};
 pub use register::{Flag, Register};
 
 mod access;
+mod law;
 mod place;
 mod register;
 #[cfg(test)]

@@ -1,5 +1,5 @@
 ghost use Rattle.std.specs.Prelude.{◌≡◌, ◌<◌, ◌≤◌, ◌+◌, ◌*◌, ◌^◌};
-ghost use Rattle.vgic_emul.specs.Effects.{changed, flag_bits, priority_bytes, with_flag, with_flags, with_priorities};
+ghost use Rattle.vgic_emul.specs.Effects.{changed_by_bits, flag_bits, priority_bytes, with_flag, with_priorities};
 
 use crate::Flag;
 use vgic_table::{IdState, IrqTable};
@@ -30,7 +30,7 @@ pub(crate) fn write_flags(
 )
     requires core { core < 8 }
     requires first { first ≤ 64 }
-    ensures { table.new ≡ with_flags table.old core flag on value first 32 }
+    ensures { table.new ≡ changed_by_bits table.old core (with_flag flag on) value first 32 }
 {
     for bit in 0..32u16 {
         if (value >> bit) % 2 == 1 {
