@@ -8,7 +8,7 @@ use crate::words::{flag_bits, priority_bytes, write_flags, write_priorities};
 use crate::{FramePlace, Register};
 use vgic_table::IrqTable;
 
-/// GICD_TYPER: 96 ids, and 24 bits of affinity.
+/// GICD_TYPER: 96 ids, in numbers of 10 bits.
 const DISTRIBUTOR_TYPE: u64 = 0x0048_0002;
 
 /// GICD_CTLR.DS and ARE, which read as 1.
@@ -17,7 +17,8 @@ const ALWAYS_ON: u64 = 0x50;
 /// An access to an emulated frame, of `width` bytes at a multiple of it: a write of a value, or a read. It answers what
 /// is read, 0 for a write. An access that reaches no register reads 0 and changes nothing.
 ///
-/// It looks at this VM's table alone, and changes it alone: both clauses speak of no other, and it is handed no other.
+/// It is handed one VM's table, and both clauses speak of that alone; what this means among several VMs is
+/// [`an_access_is_its_vms_alone`](crate::an_access_is_its_vms_alone).
 pub fn emulate(table: &mut IrqTable, place: FramePlace, width: u32, write: Option<u64>) -> u64
     requires core { core_of place < 8 }
     requires aligned { offset_of place % width ≡ 0 }

@@ -6,7 +6,7 @@ ghost use Rattle.vgic_emul.specs.declared.register.Register.TheVariants.{Flags};
 use vgic_table::IdState;
 
 /// A register of the emulated controller.
-#[derive(Clone, Copy, Debug, PartialEq, Eq)]
+#[derive(Clone, Copy)]
 pub enum Register {
     /// GICD_CTLR.
     Control,
@@ -21,7 +21,7 @@ pub enum Register {
 }
 
 /// What a bit of a register tells of an id.
-#[derive(Clone, Copy, Debug, PartialEq, Eq)]
+#[derive(Clone, Copy)]
 pub enum Flag {
     Enabled,
     Pending,
