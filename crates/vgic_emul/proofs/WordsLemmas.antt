@@ -7,27 +7,26 @@ use Rattle.std.proofs.lemmas.Nat.{mul-add-lt, pow-add, shl_whole}
 use Rattle.std.proofs.Math.Nat.{pow-suc}
 use Rattle.vgic_table.specs.declared.id_state.IdState.{IdState}
 use Rattle.vgic_table.specs.Interrupts.{Interrupts, state_of}
-use Rattle.vgic_emul.specs.declared.register.Flag.{Flag}
-use Rattle.vgic_emul.specs.Effects.{changed, changed_by_bits, flag_bits, has, priority_bytes, with_priorities}
+use Rattle.vgic_emul.specs.Effects.{changed, changed_by_bits, flag_bits, priority_bytes, with_priorities}
 
-pub flag_bits-none : (vm : Interrupts) (core : ℕ) (flag : Flag) (first : ℕ) → flag_bits vm core flag first 0 ≡ 0
+pub flag_bits-none : (vm : Interrupts) (core : ℕ) (flag : IdState → Bool) (first : ℕ) → flag_bits vm core flag first 0 ≡ 0
 unfolding flag_bits
 flag_bits-none vm core flag first = refl
 
-pub flag_bits-on : (vm : Interrupts) (core : ℕ) (flag : Flag) (first count : ℕ) → has flag (state_of vm core (first + count)) ≡ true →
+pub flag_bits-on : (vm : Interrupts) (core : ℕ) (flag : IdState → Bool) (first count : ℕ) → flag (state_of vm core (first + count)) ≡ true →
     flag_bits vm core flag first (count + 1) ≡ flag_bits vm core flag first count + 2 ^ count
 unfolding flag_bits
 flag_bits-on vm core flag first count on = rw (add-one, on) refl
 
-pub flag_bits-off : (vm : Interrupts) (core : ℕ) (flag : Flag) (first count : ℕ) → has flag (state_of vm core (first + count)) ≡ false →
+pub flag_bits-off : (vm : Interrupts) (core : ℕ) (flag : IdState → Bool) (first count : ℕ) → flag (state_of vm core (first + count)) ≡ false →
     flag_bits vm core flag first (count + 1) ≡ flag_bits vm core flag first count
 unfolding flag_bits
 flag_bits-off vm core flag first count off = rw (add-one, off) (add-zero _)
 
-pub flag_bits-lt : (vm : Interrupts) (core : ℕ) (flag : Flag) (first count : ℕ) → flag_bits vm core flag first count < 2 ^ count
+pub flag_bits-lt : (vm : Interrupts) (core : ℕ) (flag : IdState → Bool) (first count : ℕ) → flag_bits vm core flag first count < 2 ^ count
 unfolding flag_bits
 flag_bits-lt vm core flag first zero = omega arith
-flag_bits-lt vm core flag first (suc count) = by_test (has flag (state_of vm core (first + count))) (flag_bits-lt vm core flag first count)
+flag_bits-lt vm core flag first (suc count) = by_test (flag (state_of vm core (first + count))) (flag_bits-lt vm core flag first count)
   where
     by_test : (test : Bool) → flag_bits vm core flag first count < 2 ^ count →
         flag_bits vm core flag first count + (if test then 2 ^ count else 0) < 2 ^ suc count

@@ -1,33 +1,25 @@
--- What a read of a register gives, and what a write keeps.
-use Rattle.std.specs.Prelude.{◌==◌, ℕ, zero, suc, ◌+◌, ◌-◌, ◌*◌, ◌/◌, ◌%◌, ◌^◌, Bool, if◌then◌else◌, Option, Some, None}
+-- What reads of the registers give, and what writes keep.
+use Rattle.std.specs.Prelude.{◌==◌, ℕ, zero, suc, ◌+◌, ◌-◌, ◌*◌, ◌/◌, ◌%◌, ◌^◌, Bool, if◌then◌else◌}
 use Rattle.std.specs.Int.{bit_at}
 use Rattle.vgic_table.specs.declared.id_state.IdState.{IdState}
 use Rattle.vgic_table.specs.Interrupts.{Interrupts, state_of}
 use Rattle.vgic_table.specs.Changes.{masked, with_state}
-use Rattle.vgic_emul.specs.declared.place.FramePlace.{FramePlace}
-use Rattle.vgic_emul.specs.declared.register.Flag.{Flag}
-use Rattle.vgic_emul.specs.declared.register.Flag.TheVariants.{Enabled, Pending}
-use Rattle.vgic_emul.specs.declared.register.Register.{Register}
-use Rattle.vgic_emul.specs.declared.register.Register.TheVariants.{Control, DistributorType, CoreType, Flags, Priorities}
-use Rattle.vgic_emul.specs.Registers.{core_of, offset_of, register_at}
 
-abbrev pub has : Flag → IdState → Bool
-has Enabled state = state.enabled
-has Pending state = state.pending
-
-abbrev pub with_flag : Flag → Bool → IdState → IdState
-with_flag Enabled on state = record state { enabled = on }
-with_flag Pending on state = record state { pending = on }
+pub record Effect : Type 0 where
+  -- of the interrupts, the frame's core, and an access's offset and width: what is read
+  pub reads : Interrupts → ℕ → ℕ → ℕ → ℕ
+  -- of these and a value: the interrupts once it is written
+  pub keeps : Interrupts → ℕ → ℕ → ℕ → ℕ → Interrupts
 
 -- an id of a core is changed; of its priority the bits 7 to 3 are kept
 abbrev pub changed : Interrupts → ℕ → ℕ → (IdState → IdState) → Interrupts
 changed vm core id change = with_state vm core id (masked (change (state_of vm core id)))
 
 -- the number whose bits, so many, tell which of the ids from `first` on have the flag
-unfoldable pub flag_bits : Interrupts → ℕ → Flag → ℕ → ℕ → ℕ
+unfoldable pub flag_bits : Interrupts → ℕ → (IdState → Bool) → ℕ → ℕ → ℕ
 flag_bits vm core flag first zero = 0
 flag_bits vm core flag first (suc count) =
-    flag_bits vm core flag first count + (if has flag (state_of vm core (first + count)) then 2 ^ count else 0)
+    flag_bits vm core flag first count + (if flag (state_of vm core (first + count)) then 2 ^ count else 0)
 
 -- those of the ids from `first` on, so many, are changed of which the value has the bit
 unfoldable pub changed_by_bits : Interrupts → ℕ → (IdState → IdState) → ℕ → ℕ → ℕ → Interrupts
@@ -49,13 +41,13 @@ with_priorities vm core value first (suc count) =
     changed (with_priorities vm core value first count) core (first + count)
     (λ state. record state { priority = value / 2 ^ (8 * count) % 256 })
 
--- GICR_TYPER: the core's affinity, its number, and whether it is the VM's last
-abbrev pub core_type : Interrupts → ℕ → ℕ
-core_type vm core = core * 2 ^ 32 + core * 2 ^ 8 + (if core + 1 == vm.cores then 16 else 0)
-
--- so many bytes of a register, from one on
+-- so many bytes of a number, from one on
 abbrev pub part : ℕ → ℕ → ℕ → ℕ
-part value first width = value / 2 ^ (8 * first) % 2 ^ (8 * width)
+part number first width = number / 2 ^ (8 * first) % 2 ^ (8 * width)
+
+-- the core's affinity, its number, and whether it is the VM's last
+abbrev pub type_of : Interrupts → ℕ → ℕ
+type_of vm core = core * 2 ^ 32 + core * 2 ^ 8 + (if core + 1 == vm.cores then 16 else 0)
 
 -- the id of bit 0: word n of a register of flags, of which each has 0x80 bytes, is of the ids from 32 n on
 abbrev pub first_flagged : ℕ → ℕ
@@ -65,36 +57,49 @@ first_flagged offset = 32 * (offset % 0x80 / 4)
 abbrev pub prioritised : ℕ → ℕ
 prioritised offset = offset - 0x400
 
--- what a read of so many bytes at this offset gives
-abbrev pub value_of : Interrupts → ℕ → ℕ → ℕ → Register → ℕ
-value_of vm core offset width Control = 0x50 + (if vm.on then 2 else 0)
-value_of vm core offset width DistributorType = 0x00480002
-value_of vm core offset width CoreType = part (core_type vm core) (offset - 8) width
-value_of vm core offset width (Flags flag sets) = flag_bits vm core flag (first_flagged offset) 32
-value_of vm core offset width Priorities = priority_bytes vm core (prioritised offset) width
+abbrev pub enabled : IdState → Bool
+enabled state = state.enabled
 
--- what a write of so many bytes at this offset leaves
-abbrev pub written : Interrupts → ℕ → ℕ → ℕ → ℕ → Register → Interrupts
-written vm core offset width value Control = record vm { on = bit_at value 1 == 1 }
-written vm core offset width value DistributorType = vm
-written vm core offset width value CoreType = vm
-written vm core offset width value (Flags flag sets) = changed_by_bits vm core (with_flag flag sets) value (first_flagged offset) 32
-written vm core offset width value Priorities = with_priorities vm core value (prioritised offset) width
+abbrev pub with_enabled : Bool → IdState → IdState
+with_enabled on state = record state { enabled = on }
 
--- the answer of an access: 0 for a write, and where there is no register
-abbrev pub answer : Interrupts → FramePlace → ℕ → Option ℕ → ℕ
-answer vm place width (Some value) = 0
-answer vm place width None = answer_of (register_at place width)
-  where
-    answer_of : Option Register → ℕ
-    answer_of None = 0
-    answer_of (Some register) = value_of vm (core_of place) (offset_of place) width register
+abbrev pub pending : IdState → Bool
+pending state = state.pending
 
--- the interrupts after an access: those before, but for what a write of a register keeps
-abbrev pub after : Interrupts → FramePlace → ℕ → Option ℕ → Interrupts
-after vm place width None = vm
-after vm place width (Some value) = after_of (register_at place width)
-  where
-    after_of : Option Register → Interrupts
-    after_of None = vm
-    after_of (Some register) = written vm (core_of place) (offset_of place) width value register
+abbrev pub with_pending : Bool → IdState → IdState
+with_pending on state = record state { pending = on }
+
+-- GICD_CTLR: DS and ARE read as 1, and bit 1 is whether the distributor is on
+abbrev pub control : Effect
+control = record {
+  reads = λ vm core offset width. 0x50 + (if vm.on then 2 else 0);
+  keeps = λ vm core offset width value. record vm { on = bit_at value 1 == 1 };
+}
+
+-- GICD_TYPER
+abbrev pub distributor_type : Effect
+distributor_type = record {
+  reads = λ vm core offset width. 0x00480002;
+  keeps = λ vm core offset width value. vm;
+}
+
+-- GICR_TYPER
+abbrev pub core_type : Effect
+core_type = record {
+  reads = λ vm core offset width. part (type_of vm core) (offset - 8) width;
+  keeps = λ vm core offset width value. vm;
+}
+
+-- a bit an id: it tells a flag, and a 1 that is written changes the id
+abbrev pub flags : (IdState → Bool) → (IdState → IdState) → Effect
+flags flag change = record {
+  reads = λ vm core offset width. flag_bits vm core flag (first_flagged offset) 32;
+  keeps = λ vm core offset width value. changed_by_bits vm core change value (first_flagged offset) 32;
+}
+
+-- a byte an id, its priority
+abbrev pub priorities : Effect
+priorities = record {
+  reads = λ vm core offset width. priority_bytes vm core (prioritised offset) width;
+  keeps = λ vm core offset width value. with_priorities vm core value (prioritised offset) width;
+}

@@ -2,7 +2,7 @@
 use Rattle.std.specs.Prelude.{◌≡◌, ◌≢◌, ◌<◌, ℕ, List, Option, length, slice_index_or, slice_set}
 use Rattle.vgic_table.specs.Interrupts.{Interrupts, quiet_interrupts}
 use Rattle.vgic_emul.specs.declared.place.FramePlace.{FramePlace}
-use Rattle.vgic_emul.specs.Effects.{after, answer}
+use Rattle.vgic_emul.specs.Registers.{after, answer}
 
 abbrev pub table_of : List Interrupts → ℕ → Interrupts
 table_of tables vm = slice_index_or tables vm (quiet_interrupts 0)

@@ -1,5 +1,5 @@
 pub mod Frame
-pub mod Registers
 pub mod Effects
-pub mod Fits
+pub mod Registers
+pub mod Reached
 pub mod Laws

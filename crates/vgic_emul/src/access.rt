@@ -1,11 +1,12 @@
 ghost use Rattle.std.specs.Prelude.{◌≡◌, ◌<◌, ◌≤◌, ◌+◌, ◌%◌, IfSome};
-ghost use Rattle.vgic_emul.specs.Effects.{after, answer, core_type, first_flagged, part, prioritised, value_of, written};
-ghost use Rattle.vgic_emul.specs.Fits.{Fits};
-ghost use Rattle.vgic_emul.specs.Registers.{core_of, offset_of, register_at};
+ghost use Rattle.std.specs.Option.{option_map};
+ghost use Rattle.vgic_emul.specs.Effects.{first_flagged, part, prioritised, type_of};
+ghost use Rattle.vgic_emul.specs.Reached.{effect_of, Fits};
+ghost use Rattle.vgic_emul.specs.Registers.{after, answer, core_of, effect_at, offset_of};
 
-use crate::register::{of_distributor, of_private_ids, of_redistributor};
+use crate::FramePlace;
+use crate::register::{Register, of_distributor, of_private_ids, of_redistributor};
 use crate::words::{flag_bits, priority_bytes, write_flags, write_priorities};
-use crate::{FramePlace, Register};
 use vgic_table::IrqTable;
 
 /// GICD_TYPER: 96 ids, in numbers of 10 bits.
@@ -63,7 +64,7 @@ fn offset_of(place: FramePlace) -> u32
 /// The register that an access reaches; None where there is none at its offset, or none of its width.
 fn register_at(place: FramePlace, width: u32) -> Option<Register>
     requires { offset_of place % width ≡ 0 }
-    ensures value { result ≡ register_at place width }
+    ensures effect { option_map effect_of result ≡ effect_at place width }
     ensures fits { IfSome result (Fits (offset_of place) width) }
 {
     match place {
@@ -77,7 +78,7 @@ fn register_at(place: FramePlace, width: u32) -> Option<Register>
 fn read_register(table: &IrqTable, core: u8, offset: u32, width: u32, register: Register) -> u64
     requires core { core < 8 }
     requires fits { Fits offset width register }
-    ensures { result ≡ value_of table.now core offset width register }
+    ensures { result ≡ (effect_of register).reads table.now core offset width }
 {
     match register {
         Register::Control => ALWAYS_ON + if table.on() { 2 } else { 0 },
@@ -99,7 +100,7 @@ fn write_register(
 )
     requires core { core < 8 }
     requires fits { Fits offset width register }
-    ensures { table.new ≡ written table.old core offset width value register }
+    ensures { table.new ≡ (effect_of register).keeps table.old core offset width value }
 {
     match register {
         Register::Control => table.set_on(value / 2 % 2 == 1),
@@ -118,7 +119,7 @@ fn write_register(
 /// GICR_TYPER: the core's affinity, its number, and whether it is the VM's last.
 fn core_type(table: &IrqTable, core: u8) -> u64
     requires { core < 8 }
-    ensures { result ≡ core_type table.now core }
+    ensures { result ≡ type_of table.now core }
 {
     let number = u64::from(core);
     let last = if core + 1 == table.cores() { 16 } else { 0 };

@@ -7,7 +7,6 @@
 pub use access::emulate;
 pub use law::an_access_is_its_vms_alone;
 pub use place::{FramePlace, frame};
-pub use register::{Flag, Register};
 
 mod access;
 mod law;

@@ -1,13 +1,14 @@
-ghost use Rattle.std.specs.Prelude.{◌≡◌};
-ghost use Rattle.vgic_emul.specs.Effects.{has, with_flag};
-ghost use Rattle.vgic_emul.specs.Registers.{distributor_rows, private_rows, redistributor_rows, register_in};
+ghost use Rattle.std.specs.Prelude.{◌≡◌, ◌%◌, IfSome};
+ghost use Rattle.std.specs.Option.{option_map};
+ghost use Rattle.vgic_emul.specs.Reached.{effect_of, Fits, has, with_flag};
+ghost use Rattle.vgic_emul.specs.Registers.{distributor_rows, effect_in, private_rows, redistributor_rows};
 ghost use Rattle.vgic_emul.specs.declared.register.Register.TheVariants.{Flags};
 
 use vgic_table::IdState;
 
 /// A register of the emulated controller.
 #[derive(Clone, Copy)]
-pub enum Register {
+pub(crate) enum Register {
     /// GICD_CTLR.
     Control,
     /// GICD_TYPER.
@@ -22,7 +23,7 @@ pub enum Register {
 
 /// What a bit of a register tells of an id.
 #[derive(Clone, Copy)]
-pub enum Flag {
+pub(crate) enum Flag {
     Enabled,
     Pending,
 }
@@ -52,7 +53,9 @@ impl Flag {
 
 /// The register of the distributor that an access reaches.
 pub(crate) fn of_distributor(offset: u32, width: u32) -> Option<Register>
-    ensures value { result ≡ register_in distributor_rows offset width }
+    requires { offset % width ≡ 0 }
+    ensures effect { option_map effect_of result ≡ effect_in distributor_rows offset width }
+    ensures fits { IfSome result (Fits offset width) }
 {
     let register = match (offset, width) {
         (0x0..=0x3, 4) => Register::Control,
@@ -69,7 +72,9 @@ pub(crate) fn of_distributor(offset: u32, width: u32) -> Option<Register>
 
 /// The register of a redistributor that an access reaches.
 pub(crate) fn of_redistributor(offset: u32, width: u32) -> Option<Register>
-    ensures value { result ≡ register_in redistributor_rows offset width }
+    requires { offset % width ≡ 0 }
+    ensures effect { option_map effect_of result ≡ effect_in redistributor_rows offset width }
+    ensures fits { IfSome result (Fits offset width) }
 {
     match (offset, width) {
         (0x8..=0xf, 4 | 8) => Some(Register::CoreType),
@@ -79,7 +84,9 @@ pub(crate) fn of_redistributor(offset: u32, width: u32) -> Option<Register>
 
 /// The register of the frame of a core's own ids that an access reaches.
 pub(crate) fn of_private_ids(offset: u32, width: u32) -> Option<Register>
-    ensures value { result ≡ register_in private_rows offset width }
+    requires { offset % width ≡ 0 }
+    ensures effect { option_map effect_of result ≡ effect_in private_rows offset width }
+    ensures fits { IfSome result (Fits offset width) }
 {
     let register = match (offset, width) {
         (0x100..=0x103, 4) => flags(Flag::Enabled, true),

@@ -1,14 +1,15 @@
 ghost use Rattle.std.specs.Prelude.{◌≡◌, ◌<◌, ◌≤◌, ◌+◌};
-ghost use Rattle.vgic_emul.specs.Effects.{changed_by_bits, flag_bits, priority_bytes, with_flag, with_priorities};
+ghost use Rattle.vgic_emul.specs.Effects.{changed_by_bits, flag_bits, priority_bytes, with_priorities};
+ghost use Rattle.vgic_emul.specs.Reached.{has, with_flag};
 
-use crate::Flag;
+use crate::register::Flag;
 use vgic_table::{IdState, IrqTable};
 
 /// The word whose bits tell which of 32 ids from the first on have the flag.
 pub(crate) fn flag_bits(table: &IrqTable, core: u8, flag: Flag, first: u16) -> u64
     requires core { core < 8 }
     requires first { first ≤ 64 }
-    ensures { result ≡ flag_bits table.now core flag first 32 }
+    ensures { result ≡ flag_bits table.now core (has flag) first 32 }
 {
     let mut value = 0;
     for bit in 0..32u16 {

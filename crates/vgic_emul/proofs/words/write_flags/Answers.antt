@@ -1,5 +1,5 @@
 use Rattle.std.proofs.Common.{sym}
-use Rattle.vgic_emul.specs.Effects.{with_flag}
+use Rattle.vgic_emul.specs.Reached.{with_flag}
 use Rattle.vgic_emul.proofs.WordsLemmas.{changed_by_bits-none, changed_by_bits-set, changed_by_bits-clear}
 use Rattle.vgic_emul.proofs.words.write_flags.Goals as goal
 use Rattle.vgic_emul.proofs.words.write_flags.Goals.{then-value-bit-eq1, else-value-bit-eq1}

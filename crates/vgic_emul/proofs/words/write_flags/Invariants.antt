@@ -1,5 +1,6 @@
 use Rattle.std.proofs.Common.{◌≡◌}
-use Rattle.vgic_emul.specs.Effects.{changed_by_bits, with_flag}
+use Rattle.vgic_emul.specs.Effects.{changed_by_bits}
+use Rattle.vgic_emul.specs.Reached.{with_flag}
 use Rattle.vgic_emul.proofs.words.write_flags.Given as goal
 
 abbrev pub invariant-loop-bit : goal.invariant-loop-bit
