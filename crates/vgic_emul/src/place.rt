@@ -1,5 +1,5 @@
-ghost use Rattle.std.specs.Prelude.{◌≡◌, ◌<◌, ◌≤◌, ◌^◌, ◌*◌, ◌/◌, ◌%◌};
-ghost use Rattle.vgic_emul.specs.Frame.{frame_at, in_core};
+ghost use Rattle.std.specs.Prelude.{◌≡◌, ◌<◌, ◌≤◌, ◌^◌, ◌*◌, ◌/◌, ◌%◌, IfSome};
+ghost use Rattle.vgic_emul.specs.Frame.{frame_at, in_core, IsPlace};
 
 /// The bytes of a frame.
 const FRAME_SIZE: u64 = 0x10000;
@@ -19,12 +19,13 @@ pub enum FramePlace {
 }
 
 /// The emulated frame in which an address lies, of a VM with so many virtual cores. None comes exactly where the address
-/// is in no frame of the VM.
+/// is in no frame of the VM, and a core of a place is one of the VM's.
 pub fn frame(gicd: u64, gicr: u64, cores: u8, at: u64) -> Option<FramePlace>
     requires gicd { gicd < 2 ^ 48 }
     requires gicr { gicr < 2 ^ 48 }
     requires cores { cores ≤ 8 }
-    ensures { result ≡ frame_at gicd gicr cores at }
+    ensures value { result ≡ frame_at gicd gicr cores at }
+    ensures lies { IfSome result (IsPlace cores) }
 {
     if gicd <= at && at < gicd + FRAME_SIZE {
         return Some(FramePlace::Dist {
