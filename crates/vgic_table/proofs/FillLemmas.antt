@@ -1,20 +1,20 @@
 -- What `registers` and `left_by_registers` have in common with the table that they come from.
-use Rattle.std.proofs.Common.{◌≡◌, ◌≢◌, ℕ, zero, suc, ◌+◌, ◌<◌, ◌≤◌, ◌*◌, ◌/◌, ◌%◌, nat_lt, min, ◌==◌, Bool, true, false, cond, not, ◌&&◌, if◌then◌else◌, List, [], ◌∷◌, Option, Some, None, find, refl, sym, ap, subst, ◌∙◌, arith}
+use Rattle.std.proofs.Common.{◌≡◌, ℕ, zero, suc, ◌+◌, ◌<◌, ◌≤◌, ◌*◌, ◌/◌, ◌%◌, nat_lt, min, ◌==◌, Bool, true, false, cond, ◌&&◌, if◌then◌else◌, List, Some, None, find, refl, sym, ap, subst, ◌∙◌, arith}
 use Rattle.std.specs.Option.{option_map_or}
 use Rattle.std.proofs.lemmas.Bool.{false≢true}
 use Rattle.std.proofs.lemmas.Bool.Decides.{nat_tests}
 use Rattle.std.proofs.Math.Nat.{le_antisymm}
 use Rattle.bao_types.specs.ListReg.{ListRegData, is_free}
-use Rattle.vgic_iface.specs.Rank.{id_end, id_of, least, no_rank, priority_of}
+use Rattle.vgic_iface.specs.Rank.{id_end, id_of, no_rank, priority_of}
 use Rattle.vgic_iface.specs.Interface.{best_listed, holds, listed_rank, rank_in}
 use Rattle.vgic_iface.proofs.LeastLemmas.{least_le, least_le_none}
 use Rattle.vgic_table.specs.declared.id_state.IdState.{IdState}
-use Rattle.vgic_table.specs.Interrupts.{Interrupts, belongs, best, may_take, state_of}
+use Rattle.vgic_table.specs.Interrupts.{Interrupts, belongs, best, state_of}
 use Rattle.vgic_table.specs.Changes.{with_state}
 use Rattle.vgic_table.specs.Registers.{Fits, Tidy, free_register, joined, left_by_registers, put_back, register_for, registers, without_best}
 use Rattle.vgic_table.specs.Shape.{IsShaped}
 use Rattle.vgic_table.proofs.StateLemmas.{change-same, change_at, shaped-with, state-other, state-same, true_same, false_other, with-own}
-use Rattle.vgic_table.proofs.RankLemmas.{IsBest, Passes, all_pass, best-found}
+use Rattle.vgic_table.proofs.RankLemmas.{Passes, all_pass, best-found}
 use Rattle.vgic_table.proofs.JoinedLemmas.{best-joined}
 
 -- what stays of an id of the core when others or it go into registers

@@ -1,6 +1,6 @@
 -- A change of the register in which an id stands, or of an id that stands in none, is that change of table and registers
 -- together.
-use Rattle.std.proofs.Common.{◌≡◌, ◌≢◌, ℕ, ◌+◌, ◌<◌, ◌==◌, Bool, true, false, cond, not, ◌&&◌, if◌then◌else◌, List, [], ◌∷◌, Option, Some, None, find, refl, sym, ap, subst, ◌∙◌}
+use Rattle.std.proofs.Common.{◌≡◌, ℕ, ◌<◌, ◌==◌, Bool, true, false, cond, not, ◌&&◌, if◌then◌else◌, List, [], ◌∷◌, Some, None, find, refl, sym, ap, subst, ◌∙◌}
 use Rattle.std.proofs.lemmas.Bool.{false≢true}
 use Rattle.bao_types.specs.ListReg.{ListRegData, is_free}
 use Rattle.vgic_iface.specs.Interface.{holds, made_active, made_inactive, with_holder}

@@ -1,15 +1,15 @@
 -- Table and list registers together.
-use Rattle.std.proofs.Common.{◌≡◌, ◌≢◌, ℕ, zero, suc, ◌+◌, ◌<◌, ◌≤◌, min, ◌==◌, Bool, true, false, cond, not, ◌&&◌, if◌then◌else◌, List, [], ◌∷◌, Option, Some, None, find, length, refl, sym, ap, subst, ◌∙◌, arith, ◌⊎◌, inl, inr}
+use Rattle.std.proofs.Common.{◌≡◌, ℕ, ◌<◌, ◌≤◌, min, ◌==◌, Bool, true, false, cond, not, ◌&&◌, if◌then◌else◌, List, [], ◌∷◌, Option, Some, None, find, refl, sym, ap, subst, ◌∙◌, arith, ◌⊎◌, inl, inr}
 use Rattle.std.specs.Option.{option_map_or}
 use Rattle.bao_types.specs.ListReg.{ListRegData, is_free}
-use Rattle.vgic_iface.specs.Rank.{id_end, least, no_rank, rank}
-use Rattle.vgic_iface.specs.Interface.{best_listed, holds, listed_rank, rank_in, with_holder}
+use Rattle.vgic_iface.specs.Rank.{id_end, no_rank, rank}
+use Rattle.vgic_iface.specs.Interface.{best_listed, holds, listed_rank, rank_in}
 use Rattle.vgic_table.specs.declared.id_state.IdState.{IdState}
-use Rattle.vgic_table.specs.Interrupts.{Interrupts, belongs, best, may_take, rank_at, state_of}
+use Rattle.vgic_table.specs.Interrupts.{Interrupts, belongs, best, rank_at, state_of}
 use Rattle.vgic_table.specs.Changes.{with_state}
-use Rattle.vgic_table.specs.Registers.{Fits, Tidy, joined, put_back}
+use Rattle.vgic_table.specs.Registers.{Fits, Tidy, joined}
 use Rattle.vgic_table.specs.Shape.{IsShaped}
-use Rattle.vgic_table.proofs.StateLemmas.{change-same, change-swap, change_at, false_other, false_true, shaped-with, state-other, state-same, true_same}
+use Rattle.vgic_table.proofs.StateLemmas.{false_other, false_true, shaped-with, state-other, state-same, true_same}
 use Rattle.vgic_table.proofs.RankLemmas.{least-joined}
 
 -- an id as the register has it in which it stands

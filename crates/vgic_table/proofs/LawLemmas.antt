@@ -1,5 +1,5 @@
 -- Acknowledgement and end, by list registers and by all interrupts.
-use Rattle.std.proofs.Common.{◌≡◌, ℕ, ◌+◌, ◌*◌, ◌/◌, ◌%◌, ◌<◌, ◌≤◌, nat_lt, min, Bool, true, false, cond, not, ◌&&◌, if◌then◌else◌, List, Option, Some, None, find, refl, sym, ap, subst, ◌∙◌, arith, ◌⊎◌, inl, inr}
+use Rattle.std.proofs.Common.{◌≡◌, ℕ, ◌+◌, ◌*◌, ◌/◌, ◌%◌, ◌<◌, nat_lt, min, Bool, true, false, not, ◌&&◌, if◌then◌else◌, List, Option, Some, None, find, refl, ap, subst, ◌∙◌, arith, ◌⊎◌, inl, inr}
 use Rattle.std.specs.Prelude.{is_some}
 use Rattle.std.specs.Option.{option_map_or}
 use Rattle.std.proofs.lemmas.Bool.{false≢true}
@@ -7,14 +7,13 @@ use Rattle.std.proofs.lemmas.Bool.Decides.{nat_tests}
 use Rattle.bao_types.specs.ListReg.{ListRegData}
 use Rattle.bao_types.specs.IfaceRegs.{IfaceData}
 use Rattle.vgic_iface.specs.Active.{running, with_priority}
-use Rattle.vgic_iface.specs.Rank.{id_end, id_of, least, no_rank, priority_of, rank}
-use Rattle.vgic_iface.specs.Interface.{acknowledged, best_listed, ended, holds, is_signalled, is_unlisted, listed_rank, listed_signal, made_active, rank_in, signalled, with_holder}
+use Rattle.vgic_iface.specs.Rank.{id_end, id_of, no_rank, priority_of, rank}
+use Rattle.vgic_iface.specs.Interface.{best_listed, holds, is_signalled, listed_rank, made_active, rank_in, signalled, with_holder}
 use Rattle.vgic_iface.specs.Interface.{made_inactive as list_inactive}
 use Rattle.vgic_iface.proofs.LeastLemmas.{least-found}
 use Rattle.vgic_iface.proofs.ListsLemmas.{with_holder-none}
-use Rattle.vgic_table.specs.declared.id_state.IdState.{IdState}
-use Rattle.vgic_table.specs.Interrupts.{Interrupts, best, state_of}
-use Rattle.vgic_table.specs.Changes.{after_acknowledge, made_inactive, taken}
+use Rattle.vgic_table.specs.Interrupts.{Interrupts, best}
+use Rattle.vgic_table.specs.Changes.{made_inactive, taken}
 use Rattle.vgic_table.specs.Registers.{Tidy, joined}
 use Rattle.vgic_table.specs.Shape.{BestIsListed, IsShaped}
 use Rattle.vgic_table.specs.Laws.{Acknowledges, Ends}

@@ -1,7 +1,7 @@
 -- Changes of a VM's interrupts.
-use Rattle.std.specs.Prelude.{ℕ, ◌-◌, ◌%◌, nat_lt, Bool, true, false, if◌then◌else◌, Option, slice_set, unwrap_or}
+use Rattle.std.specs.Prelude.{ℕ, ◌-◌, ◌%◌, nat_lt, true, false, if◌then◌else◌, Option, slice_set}
 use Rattle.bao_types.specs.IfaceRegs.{IfaceData}
-use Rattle.vgic_iface.specs.Active.{with_priority, without_running}
+use Rattle.vgic_iface.specs.Active.{with_priority}
 use Rattle.vgic_iface.specs.Interface.{is_signalled, signalled}
 use Rattle.vgic_iface.specs.Rank.{id_of, id_end, priority_of}
 use Rattle.vgic_table.specs.declared.id_state.IdState.{IdState}

@@ -1,5 +1,5 @@
 -- What table and list registers keep of each other.
-use Rattle.std.specs.Prelude.{◌≡◌, ◌<◌, ℕ, List, if◌then◌else◌}
+use Rattle.std.specs.Prelude.{◌≡◌, ℕ, List, if◌then◌else◌}
 use Rattle.bao_types.specs.ListReg.{ListRegData}
 use Rattle.bao_types.specs.IfaceRegs.{IfaceData}
 use Rattle.vgic_iface.specs.Interface.{acknowledged, best_listed, ended, is_unlisted, listed_signal}

@@ -1,5 +1,5 @@
 -- A VM's interrupts, of which some stand in a core's list registers.
-use Rattle.std.specs.Prelude.{◌≡◌, ◌<◌, ℕ, zero, suc, ◌/◌, ◌%◌, nat_lt, Bool, true, false, ◌&&◌, ◌||◌, not, if◌then◌else◌, IsTrue, List, [], ◌∷◌, None, find}
+use Rattle.std.specs.Prelude.{◌≡◌, ◌<◌, ℕ, zero, suc, nat_lt, true, false, ◌&&◌, if◌then◌else◌, List, [], ◌∷◌, None, find}
 use Rattle.bao_types.specs.ListReg.{ListRegData, is_free}
 use Rattle.vgic_iface.specs.Interface.{holds}
 use Rattle.vgic_iface.specs.Rank.{no_rank, id_end, id_of, priority_of}

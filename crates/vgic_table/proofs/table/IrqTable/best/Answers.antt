@@ -1,5 +1,5 @@
-use Rattle.std.proofs.Common.{rules, arith, ◌≡◌, ◌∙◌, ap, sym, refl, ◌+◌, min, ℕ, add-one}
-use Rattle.vgic_iface.specs.Rank.{least, no_rank}
+use Rattle.std.proofs.Common.{arith, ◌≡◌, refl, ◌+◌, min, ℕ, add-one}
+use Rattle.vgic_iface.specs.Rank.{least}
 use Rattle.vgic_table.specs.Interrupts.{rank_at}
 use Rattle.vgic_table.proofs.table.IrqTable.best.Goals as goal
 

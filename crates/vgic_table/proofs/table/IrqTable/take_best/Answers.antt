@@ -1,5 +1,5 @@
-use Rattle.std.proofs.Common.{rules, arith, ◌≡◌, ◌<◌, ◌∙◌, ap, sym, refl, ◌%◌, ◌/◌, ℕ, true, false, nat_lt}
-use Rattle.vgic_iface.specs.Rank.{no_rank, id_of, priority_of}
+use Rattle.std.proofs.Common.{arith, ◌≡◌, ◌<◌, ◌∙◌, ap, ◌%◌}
+use Rattle.vgic_iface.specs.Rank.{no_rank, id_of}
 use Rattle.vgic_table.specs.Interrupts.{best, state_of}
 use Rattle.vgic_table.proofs.RankLemmas.{IsBest, best-found, register_for-is}
 use Rattle.vgic_table.proofs.table.IrqTable.take_best.Goals as goal
