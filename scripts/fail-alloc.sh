@@ -3,7 +3,7 @@
 # run must end with status 10, the one line `out of memory` and nothing else, until one in which no allocation is
 # refused, which must print the first report, or the packing.
 #
-# Outside the gate: each run is compiled anew by `rt try`, which takes some ten seconds.
+# Outside the gate: each run is compiled anew by `rt try`, which takes up to a minute.
 
 top="$(dirname "$(dirname "$(readlink -f "${BASH_SOURCE[0]}")")")"
 first="$top/examples/first"

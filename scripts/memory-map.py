@@ -4,7 +4,8 @@
     memory-map.py CONFIG [PACKING]
 
 PACKING is a file with what `bao check CONFIG` prints. Without it the proved program is asked, where it is there; else the
-picture has no counts of entries. It wants Python 3.11, and judges nothing: `check` does.
+picture has no counts of entries. It wants Python 3.11, and judges nothing: `check` does. A dev without its port and a
+window without its shared memory have no bytes, and aren't drawn.
 
 Addresses go from top to bottom. A stretch between two of them has the same height however long it is, and a stretch
 where nothing is stands as a gap. What a column shows of a byte is what the VM has there: a later kind lies over an
@@ -109,9 +110,11 @@ def vm_column(config, vm):
     shmems = config.get("shmem", [])
     boxes = [sized("memory", region["access"], region) for region in vm["regions"]]
     for dev in vm.get("devs", []):
-        boxes.append(Box("port", ports[dev["port"]], PORT_SIZE, f"port {dev['port']}, irq {dev['irq']}"))
+        if dev["port"] in ports:
+            boxes.append(Box("port", ports[dev["port"]], PORT_SIZE, f"port {dev['port']}, irq {dev['irq']}"))
     for ipc in vm.get("ipcs", []):
-        boxes.append(sized("window", f"window {ipc['shmem']}, {ipc['access']}", shmems[ipc["shmem"]]))
+        if ipc["shmem"] < len(shmems):
+            boxes.append(sized("window", f"window {ipc['shmem']}, {ipc['access']}", shmems[ipc["shmem"]]))
     boxes += [sized("guard", "guard", guard) for guard in vm.get("guards", [])]
     cores = ", ".join(str(core) for core in vm["cores"])
     image = Box("image", vm["load"], vm["room"], "image")
