@@ -1,6 +1,7 @@
 #!/usr/bin/env bash
-# Measures the proved program and prints three lines: how many steps it makes in a second, the most memory that it had,
-# and how often runs of few and of many steps took memory. `bench.sh IMAGE` measures another image that runs for ever.
+# Measures the proved program: how many steps it makes in a second, how often runs of few and of many steps took memory,
+# the most memory that it had, also by how much of its banks a VM uses, and how long the check of the largest lawful
+# configuration takes. `bench.sh IMAGE` measures another image that runs for ever.
 #
 # Outside the gate, and no judge of time. The status is 1 where a run fails, where its report isn't the one that qemu
 # made (bench/expected), or where steps take memory; 2 where nothing could be measured. It wants Debian's packages time
@@ -15,7 +16,7 @@ image="$(readlink -f "${1:-$top/scripts/bench/a.bin}")"
 few=1
 some=700000
 many=1000000
-runs=3   # timed ones, of which the fastest counts
+runs=3   # timed ones of each kind, of which the fastest counts
 lists=64 # a bound on the times that the schedule's two lists double from few to many
 
 # Reading a schedule fills two lists, which double where they are full: its bytes, and its events. So the number of
@@ -27,7 +28,7 @@ give_up() {
     exit "$1"
 }
 
-for needed in valgrind /usr/bin/time rt; do
+for needed in valgrind /usr/bin/time python3 rt; do
     command -v "$needed" >/dev/null || give_up 2 "$needed is missing"
 done
 room="$(mktemp -d)" || exit 2
@@ -59,6 +60,26 @@ run() {
     [[ $(tail -n 1 out) == "done" ]] || give_up 1 "a run of $steps steps put out no whole report"
 }
 
+# The peak memory, in KiB, of a run of few steps where a VM uses so many bytes of a bank of so many.
+peak_of() {
+    local used="$1" bank="$2" made="config-$1-$2.toml"
+    sed -e "s/size = 0x200000 }/size = $bank }/" -e "s/size = 0x10000, access/size = $used, access/" config.toml >"$made"
+    /usr/bin/time -f %M -o memory "$program" run "$made" "schedule-$few" </dev/null >out ||
+        give_up 1 "a run with $used bytes in use of $bank failed: $(head -c 200 out)"
+    [[ $(tail -n 1 out) == "done" ]] || give_up 1 "a run with $used bytes in use of $bank put out no whole report"
+    cat memory
+}
+
+# Checks the largest lawful configuration. Its time is in took.
+check_largest() {
+    local begin
+    begin="$(now)"
+    /usr/bin/time -f %M -o memory "$program" check largest.toml </dev/null >out ||
+        give_up 1 "the check of the largest configuration failed: $(head -c 200 out)"
+    took=$(($(now) - begin))
+    [[ $(tail -n 1 out) == "ok" ]] || give_up 1 "the check of the largest configuration put out no whole packing"
+}
+
 is_expected() {
     [[ $image != "$top/scripts/bench/a.bin" ]] || cmp -s out "$top/scripts/bench/expected"
 }
@@ -71,6 +92,7 @@ for ((number = 0; number < runs; number++)); do
 done
 
 run "$many" /usr/bin/time -f %M -o memory
+peak="$(cat memory)"
 
 # How often a run of so many steps takes memory.
 allocations() {
@@ -82,8 +104,20 @@ for_few="$(allocations "$few")" && for_some="$(allocations "$some")" && for_many
 [[ $for_few -gt 0 && $for_some -gt 0 && $for_many -gt 0 ]] || give_up 2 "valgrind counted no allocation"
 
 echo "steps per second: $((many * 1000000 / fastest)) ($many steps in $((fastest / 1000)) ms, with reading and report)"
-echo "peak memory: $(cat memory) KiB"
+echo "peak memory: $peak KiB"
 echo "allocations: $for_few with $few step, $for_some with $some steps, $for_many with $many steps"
+
+small="$(peak_of 0x10000 0x200000)" && wide="$(peak_of 0x10000 0x4000000)" && full="$(peak_of 0x3f00000 0x4000000)" || exit 1
+echo "peak memory of $few step: $small KiB with 64 KiB in use of 2 MiB, $wide KiB with 64 KiB of 64 MiB," \
+    "$full KiB with 63 MiB of 64 MiB"
+
+"$top/scripts/bench/largest.py" >largest.toml || give_up 2 "the largest configuration can't be made"
+quickest=
+for ((number = 0; number < runs; number++)); do
+    check_largest
+    [[ -n $quickest && $took -ge $quickest ]] || quickest="$took"
+done
+echo "check of the largest configuration: $((quickest / 1000)) ms, $(cat memory) KiB"
 
 ((for_many == for_some)) || give_up 1 "the steps beyond $some took memory"
 ((for_many - for_few <= lists)) || give_up 1 "more allocations came with the steps than the schedule takes"
