@@ -2,3 +2,4 @@ pub mod Access
 pub mod Placed
 pub mod Confined
 pub mod Fresh
+pub mod Kept
