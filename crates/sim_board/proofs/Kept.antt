@@ -1,5 +1,5 @@
 -- Memory in use stays kept.
-use Rattle.std.proofs.Common.{◌≡◌, ℕ, sym, subst, ap, ◌∙◌}
+use Rattle.std.proofs.Common.{◌≡◌, ℕ, sym, subst}
 use Rattle.std.specs.Prelude.{IsTrue, Option, Some}
 use Rattle.bao_types.specs.declared.shape.Shape.{Shape}
 use Rattle.bao_types.specs.Shape.{shape_data}

@@ -3,3 +3,4 @@ pub mod Placed
 pub mod Confined
 pub mod Fresh
 pub mod Kept
+pub mod Same

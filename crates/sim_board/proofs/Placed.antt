@@ -1,6 +1,6 @@
 -- Memory with one byte more of those that are copied.
-use Rattle.std.proofs.Common.{◌≡◌, ◌≢◌, ℕ, ◌+◌, ◌-◌, ◌<◌, ◌≤◌, List, [], ◌∷◌, length, get_or, take, set, Bool, true, false, refl, sym, ap, ◌∙◌, arith, get_or-take, length-take}
-use Rattle.std.specs.Prelude.{IsTrue, All, Option, Some, None, ◌==◌, ◌||◌, if◌then◌else◌, nat_le, nat_lt, slice_index}
+use Rattle.std.proofs.Common.{◌≡◌, ℕ, ◌+◌, ◌-◌, ◌<◌, List, [], length, get_or, take, Bool, true, false, refl, sym, ap, ◌∙◌, arith, get_or-take, length-take}
+use Rattle.std.specs.Prelude.{◌==◌, nat_le, nat_lt}
 use Rattle.std.proofs.lemmas.Bool.Decides.{nat_tests}
 use Rattle.board.specs.Machine.{over, with_byte}
 

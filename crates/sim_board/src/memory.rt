@@ -1,6 +1,8 @@
 //! Numbers and images in a board's memory, by address.
 
 ghost use Rattle.std.specs.Prelude.{◌≡◌, ℕ, ◌+◌, ◌≤◌, ◌<◌, ◌^◌, length, IsTrue};
+ghost use Rattle.std.specs.Bool.{OnTrue};
+ghost use Rattle.bao_types.specs.Bytes.{IsWidth};
 ghost use Rattle.board.specs.Attempt.{number_at as number_from, all_from, stores_from};
 ghost use Rattle.board.specs.Machine.{over, with_byte, written};
 ghost use Rattle.phys_bank.specs.Banks.{byte_at, is_kept};
@@ -9,6 +11,25 @@ use phys_bank::Banks;
 
 /// The number that so many bytes from `at` on are, the least byte first. Addresses wrap at 2^64.
 pub(crate) fn number_at(memory: &Banks, at: u64, count: u32) -> u128
+    requires { count ≤ 16 }
+    ensures value { result ≡ number_from (byte_at memory.now) at count }
+    ensures bound { result < 256 ^ count }
+{
+    if is_width(count) {
+        return u128::from(memory.read_le(at, count));
+    }
+    number_across(memory, at, count)
+}
+
+/// Whether a number of so many bytes can be read at once.
+fn is_width(count: u32) -> bool
+    ensures { OnTrue result (IsWidth count) }
+{
+    count == 1 || count == 2 || count == 4 || count == 8
+}
+
+/// The same number, byte by byte.
+fn number_across(memory: &Banks, at: u64, count: u32) -> u128
     requires { count ≤ 16 }
     ensures value { result ≡ number_from (byte_at memory.now) at count }
     ensures bound { result < 256 ^ count }

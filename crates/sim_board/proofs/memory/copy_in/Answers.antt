@@ -1,6 +1,6 @@
 use Rattle.std.proofs.Common.{◌+◌, ap, sym, ◌∙◌, arith}
 use Rattle.board.specs.Machine.{with_byte}
-use Rattle.phys_bank.specs.Banks.{byte_at, is_kept}
+use Rattle.phys_bank.specs.Banks.{byte_at}
 use Rattle.sim_board.proofs.Placed.{over-more}
 use Rattle.phys_bank.proofs.Kept.{kept-below}
 use Rattle.sim_board.proofs.memory.copy_in.Goals as goal

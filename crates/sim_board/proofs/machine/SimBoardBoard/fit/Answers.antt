@@ -9,7 +9,6 @@ use Rattle.bao_types.specs.Shape.{shape_data}
 use Rattle.a64_state.specs.Registers.{reset_core}
 use Rattle.bao_types.specs.Region.{no_region}
 use Rattle.phys_bank.specs.Banks.{byte_at}
-use Rattle.sim_board.specs.Memory.{is_held}
 use Rattle.board.specs.Machine.{is_used}
 use Rattle.sim_board.specs.Sound.{IsConfined}
 use Rattle.sim_board.proofs.Confined.{zeros_are_confined}

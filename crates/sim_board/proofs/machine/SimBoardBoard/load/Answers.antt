@@ -1,4 +1,4 @@
-use Rattle.std.proofs.Common.{◌≡◌, ◌∙◌, ap, sym, subst, rules}
+use Rattle.std.proofs.Common.{◌≡◌, subst, rules}
 use Rattle.std.specs.Prelude.{IsTrue, Some}
 use Rattle.sim_board.specs.Memory.{is_held}
 use Rattle.sim_board.proofs.Kept.{still_used}

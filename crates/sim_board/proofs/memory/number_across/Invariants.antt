@@ -1,7 +1,7 @@
 use Rattle.std.proofs.Common.{◌≡◌, ◌<◌, ◌+◌, ◌-◌, ◌%◌, ◌^◌}
 use Rattle.board.specs.Attempt.{number_at as number_from}
-use Rattle.phys_bank.specs.Banks.{byte_at, is_kept}
-use Rattle.sim_board.proofs.memory.number_at.Given as goal
+use Rattle.phys_bank.specs.Banks.{byte_at}
+use Rattle.sim_board.proofs.memory.number_across.Given as goal
 
 abbrev pub invariant-loop-k : goal.invariant-loop-k
 invariant-loop-k l =
