@@ -1,4 +1,3 @@
-pub mod Banks
 pub mod Memory
 pub mod Step
 pub mod Guard

@@ -8,7 +8,7 @@ use Rattle.bao_types.specs.Region.{is_match}
 use Rattle.pmsa_stage2.specs.Stage2.{gives_guest}
 use Rattle.board.specs.Machine.{is_used, is_port}
 use Rattle.sim_board.specs.Memory.{is_held}
-use Rattle.sim_board.specs.declared.memory.Memory.{Memory}
+use Rattle.phys_bank.specs.Banks.{BanksData}
 
 -- the entry lets a guest store to memory in use and to ports alone
 abbrev pub IsConfined : ShapeData → Region → Type 0
@@ -16,9 +16,9 @@ IsConfined shape entry =
     (at : ℕ) → IsTrue (is_match entry at) → IsTrue (gives_guest entry Write)
     → IsTrue (is_used shape at || is_port shape at)
 
--- the banks hold the used ranges; each core of the shape has its registers and entries, each of them confined; and no more
+-- memory in use is kept; each core of the shape has its registers and entries, each of them confined; and no more
 -- steps were taken than events were spent, of a million at most
-pub record IsSound (shape : Shape) (memory : Option Memory) (cores_len : ℕ) (entries : List (List Region)) (entered spent : ℕ)
+pub record IsSound (shape : Shape) (memory : Option BanksData) (cores_len : ℕ) (entries : List (List Region)) (entered spent : ℕ)
     : Type 0 where
   pub used : (at : ℕ) → IsTrue (is_used (shape_data shape) at) → IsTrue (is_held memory at)
   pub cores : cores_len ≡ length shape.cores.items

@@ -7,7 +7,6 @@
 
 pub use machine::SimBoard;
 
-mod banks;
 mod guard;
 mod machine;
 mod memory;

@@ -6,12 +6,13 @@ ghost use Rattle.board.specs.Machine.{entries_at};
 ghost use Rattle.sim_board.specs.Sound.{IsSound};
 
 use crate::guard::Guard;
-use crate::memory::Memory;
+use crate::memory::copy_in;
 use crate::step::step_core;
 use a64_state::Core;
 use arrayvec::ArrayVec;
 use bao_types::{CorePlace, OutOfMemory, Region, Shape};
 use board::{Board, CoreView, Exit};
+use phys_bank::Banks;
 use std::alloc::{AllocError, Global};
 
 /// The simulated machine.
@@ -19,7 +20,7 @@ use std::alloc::{AllocError, Global};
 pub struct SimBoard {
     shape: Shape,
     /// None before the board is fitted.
-    memory: Option<Memory>,
+    memory: Option<Banks>,
     cores: Vec<Core>,
     /// The EL2 entries of each core.
     entries: Vec<ArrayVec<Region, 32>>,
@@ -119,7 +120,7 @@ impl Board for SimBoard {
 
     fn fit(&mut self, alloc: Global, shape: &Shape) -> Result<(), OutOfMemory> {
         let copy = copy_shape(shape)?;
-        let memory = Memory::new(alloc, &shape.banks)?;
+        let memory = Banks::new(alloc, &shape.banks, &shape.used)?;
         let cores = reset_cores(alloc, &shape.cores)?;
         let entries = zero_entries(alloc, &shape.cores)?;
         *self = SimBoard {
@@ -138,7 +139,7 @@ impl Board for SimBoard {
         let Some(memory) = &mut self.memory else {
             unreachable!()
         };
-        memory.copy_in(at, bytes);
+        copy_in(memory, at, bytes);
     }
 
     fn set_entry(&mut self, core: u8, index: u8, entry: Region) {
@@ -182,7 +183,7 @@ impl Board for SimBoard {
         let Some(memory) = &self.memory else {
             unreachable!()
         };
-        memory.byte_at(at)
+        memory.get(at)
     }
 
     fn core_view(&self, core: u8) -> CoreView {

@@ -4,26 +4,27 @@ ghost use Rattle.a64_execute.specs.Want.{wanted, access_asked, bytes_of, IsAcces
 ghost use Rattle.a64_execute.specs.Finish.{finished};
 ghost use Rattle.board.specs.Attempt.{attempt, effect_of, stores_from};
 ghost use Rattle.board.specs.Machine.{written};
-ghost use Rattle.sim_board.specs.Memory.{memory_bytes};
+ghost use Rattle.phys_bank.specs.Banks.{byte_at, is_kept};
 ghost use Rattle.sim_board.specs.Guard.{guarded, IsContained};
 ghost use Rattle.sim_board.specs.Step.{carried_out};
 
 use crate::guard::Guard;
-use crate::memory::Memory;
+use crate::memory::{number_at, store as store_number};
 use a64_address::MemShape;
 use a64_decode::{Instr, decode};
 use a64_execute::{Need, complete, complete_access, want};
 use a64_state::Core;
 use bao_types::Access;
 use board::Exit;
+use phys_bank::Banks;
 
 /// Lets a core execute the instruction at its PC, at the system count `now`.
 #[tactic(auto, unfolding(board::specs::Attempt::attempt))]
-pub(crate) fn step_core(core: &mut Core, memory: &mut Memory, guard: &Guard<'_>, now: u64) -> Exit
-    requires { IsContained memory.old.banks.items guard.now }
-    ensures banks { memory.new.banks.items ≡ memory.old.banks.items }
-    ensures end { record { core = core.new; bytes = memory_bytes memory.new; exit = result }
-        ≡ carried_out (attempt (guarded guard.now (memory_bytes memory.old)) core.old now) core.old (memory_bytes memory.old) }
+pub(crate) fn step_core(core: &mut Core, memory: &mut Banks, guard: &Guard<'_>, now: u64) -> Exit
+    requires { IsContained (is_kept memory.old) guard.now }
+    ensures kept { is_kept memory.new ≡ is_kept memory.old }
+    ensures end { record { core = core.new; bytes = byte_at memory.new; exit = result }
+        ≡ carried_out (attempt (guarded guard.now (byte_at memory.old)) core.old now) core.old (byte_at memory.old) }
 {
     match fetch(memory, guard, core.pc) {
         Some(word) => execute(core, memory, guard, now, &decode(word)),
@@ -32,13 +33,13 @@ pub(crate) fn step_core(core: &mut Core, memory: &mut Memory, guard: &Guard<'_>,
 }
 
 /// Executes an instruction that was fetched.
-fn execute(core: &mut Core, memory: &mut Memory, guard: &Guard<'_>, now: u64, instr: &Instr) -> Exit
+fn execute(core: &mut Core, memory: &mut Banks, guard: &Guard<'_>, now: u64, instr: &Instr) -> Exit
     requires lawful { IsLawful instr.now }
-    requires contained { IsContained memory.old.banks.items guard.now }
-    ensures banks { memory.new.banks.items ≡ memory.old.banks.items }
-    ensures end { record { core = core.new; bytes = memory_bytes memory.new; exit = result }
-        ≡ carried_out (effect_of (guarded guard.now (memory_bytes memory.old)) core.old now instr.now (wanted core.old instr.now))
-        core.old (memory_bytes memory.old) }
+    requires contained { IsContained (is_kept memory.old) guard.now }
+    ensures kept { is_kept memory.new ≡ is_kept memory.old }
+    ensures end { record { core = core.new; bytes = byte_at memory.new; exit = result }
+        ≡ carried_out (effect_of (guarded guard.now (byte_at memory.old)) core.old now instr.now (wanted core.old instr.now))
+        core.old (byte_at memory.old) }
 {
     match want(core, instr) {
         Need::Done => finish(core, now, instr),
@@ -82,44 +83,44 @@ fn finish_access(core: &mut Core, now: u64, instr: &Instr, shape: &MemShape, got
 }
 
 /// The word at `pc`, where it may be fetched.
-fn fetch(memory: &Memory, guard: &Guard<'_>, pc: u64) -> Option<u32>
-    ensures { result ≡ (guarded guard.now (memory_bytes memory.now)).fetched pc }
+fn fetch(memory: &Banks, guard: &Guard<'_>, pc: u64) -> Option<u32>
+    ensures { result ≡ (guarded guard.now (byte_at memory.now)).fetched pc }
 {
     if pc % 4 == 0 && guard.reaches_all(Access::Exec, pc, 4) {
-        Some(memory.number_at(pc, 4) as u32)
+        Some(number_at(memory, pc, 4) as u32)
     } else {
         None
     }
 }
 
 /// The bytes of an access, where all of them may be read.
-fn load(memory: &Memory, guard: &Guard<'_>, shape: &MemShape) -> Option<u128>
+fn load(memory: &Banks, guard: &Guard<'_>, shape: &MemShape) -> Option<u128>
     requires { IsAccess shape.now }
-    ensures { result ≡ (guarded guard.now (memory_bytes memory.now)).loaded shape.now.at (bytes_of shape.now) }
+    ensures { result ≡ (guarded guard.now (byte_at memory.now)).loaded shape.now.at (bytes_of shape.now) }
 {
     let count = byte_count(shape);
     if guard.reaches_all(Access::Read, shape.at, count) {
-        Some(memory.number_at(shape.at, count))
+        Some(number_at(memory, shape.at, count))
     } else {
         None
     }
 }
 
 /// Stores the bytes of an access, where all of them may be written. Where not, none is.
-fn store(memory: &mut Memory, guard: &Guard<'_>, shape: &MemShape, value: u128) -> bool
+fn store(memory: &mut Banks, guard: &Guard<'_>, shape: &MemShape, value: u128) -> bool
     requires access { IsAccess shape.now }
-    requires contained { IsContained memory.old.banks.items guard.now }
-    ensures banks { memory.new.banks.items ≡ memory.old.banks.items }
-    ensures stored { result ≡ (guarded guard.now (memory_bytes memory.old)).can_store shape.now.at (bytes_of shape.now) }
-    ensures bytes { memory_bytes memory.new ≡ (if result
-        then written (stores_from shape.now.at (bytes_of shape.now) value) (memory_bytes memory.old)
-        else memory_bytes memory.old) }
+    requires contained { IsContained (is_kept memory.old) guard.now }
+    ensures kept { is_kept memory.new ≡ is_kept memory.old }
+    ensures stored { result ≡ (guarded guard.now (byte_at memory.old)).can_store shape.now.at (bytes_of shape.now) }
+    ensures bytes { byte_at memory.new ≡ (if result
+        then written (stores_from shape.now.at (bytes_of shape.now) value) (byte_at memory.old)
+        else byte_at memory.old) }
 {
     let count = byte_count(shape);
     if !guard.reaches_all(Access::Write, shape.at, count) {
         return false;
     }
-    memory.store(shape.at, count, value);
+    store_number(memory, shape.at, count, value);
     true
 }
 

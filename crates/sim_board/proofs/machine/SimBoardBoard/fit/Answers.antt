@@ -1,31 +1,32 @@
-use Rattle.std.proofs.Common.{◌≡◌, All, sym, ap, subst, ◌∙◌, length, map, replicate, rules}
+use Rattle.std.proofs.Common.{◌≡◌, All, List, sym, ap, subst, ◌∙◌, length, map, replicate, rules}
 use Rattle.std.specs.Prelude.{IsTrue}
+use Rattle.std.specs.List.{list_any}
+use Rattle.bao_types.specs.declared.range.ByteRange.{ByteRange}
+use Rattle.bao_types.specs.ByteRange.{is_in_one, lies_in}
 use Rattle.std.proofs.lemmas.List.{length-map}
 use Rattle.std.proofs.lemmas.Simd.{map-map}
 use Rattle.bao_types.specs.Shape.{shape_data}
 use Rattle.a64_state.specs.Registers.{reset_core}
 use Rattle.bao_types.specs.Region.{no_region}
-use Rattle.sim_board.specs.Banks.{is_in_bank}
-use Rattle.sim_board.specs.Memory.{memory_bytes}
+use Rattle.phys_bank.specs.Banks.{byte_at}
 use Rattle.board.specs.Machine.{is_used}
 use Rattle.sim_board.specs.Sound.{IsConfined}
 use Rattle.sim_board.proofs.Confined.{zeros_are_confined}
 use Rattle.sim_board.proofs.Fresh.{fresh_from}
-use Rattle.sim_board.proofs.Placed.{used_in_bank}
 use Rattle.sim_board.proofs.machine.SimBoardBoard.fit.Goals as goal
 
 pub returns-clause-ok : goal.returns-clause-ok
 returns-clause-ok c =
     let shape : shape_data c.in_ok-copy.copy ≡ shape_data c.args.shape.now = search rules in
-    let bytes : memory_bytes c.in_ok-memory.memory ≡ (λ at. 0) = search rules in
+    let bytes : byte_at c.in_ok-memory.memory ≡ (λ at. 0) = search rules in
     let cores : c.in_ok-cores.cores.items ≡ map (λ place. reset_core place.affinity) c.args.shape.now.cores.items =
     search rules in
     let listed : c.in_ok-entries.entries.items
     ≡ map (λ place. record { items = replicate place.entries no_region }) c.args.shape.now.cores.items = search rules in
     fresh_from _ _ _ _ _ _ _ _ shape bytes cores (ap (map (λ e. e.items)) listed ∙ map-map _ _ _)
 
-pub invariant_of-t-37 : goal.invariant_of-t-37
-invariant_of-t-37 c =
+pub invariant_of-t-40 : goal.invariant_of-t-40
+invariant_of-t-40 c =
     let listed : c.in_ok-entries.entries.items
     ≡ map (λ place. record { items = replicate place.entries no_region }) c.args.shape.now.cores.items = search rules in
     let lists : map (λ e. e.items) c.in_ok-entries.entries.items
@@ -33,13 +34,16 @@ invariant_of-t-37 c =
     ap (map (λ e. e.items)) listed ∙ map-map _ _ _ in
     let copied : shape_data c.in_ok-copy.copy ≡ shape_data c.args.shape.now = search rules in
     let places : c.in_ok-copy.copy.cores.items ≡ c.args.shape.now.cores.items = ap (λ s. s.cores) copied in
-    let banks : c.in_ok-memory.memory.banks.items ≡ c.args.shape.now.banks.items = search rules in
     let reset : c.in_ok-cores.cores.items ≡ map (λ place. reset_core place.affinity) c.args.shape.now.cores.items =
     search rules in
+    let lie : All (λ range. IsTrue (list_any (lies_in range) c.deref.result.now)) c.deref-2.result.now =
+    subst (λ (used : List ByteRange). All (λ range. IsTrue (list_any (lies_in range) c.deref.result.now)) used) (sym c.deref-2.ensures.0)
+    (subst (λ (banks : List ByteRange). All (λ range. IsTrue (list_any (lies_in range) banks)) c.args.shape.now.used.items) (sym c.deref.ensures.0)
+    c.requires.fittable.used) in
     record {
       sound = record {
-        used = λ at held. subst (λ b. IsTrue (is_in_bank b at)) (sym banks)
-            (used_in_bank c.args.shape.now.banks.items c.args.shape.now.used.items at c.requires.fittable.used
+        used = λ at held. c.in_ok-memory.ensures.used lie at
+            (subst (λ (used : List ByteRange). IsTrue (is_in_one (λ range. range) used at)) (sym c.deref-2.ensures.0)
             (subst (λ s. IsTrue (is_used s at)) copied held));
         cores = ap length reset ∙ length-map _ _ ∙ sym (ap length places);
         entries_len = ap length lists ∙ length-map _ _ ∙ sym (ap length places);

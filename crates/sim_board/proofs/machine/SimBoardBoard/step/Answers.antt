@@ -11,6 +11,7 @@ use Rattle.bao_types.specs.Shape.{is_port_of}
 use Rattle.sim_board.specs.Memory.{is_held}
 use Rattle.sim_board.specs.Sound.{IsConfined}
 use Rattle.sim_board.proofs.Confined.{confined_store}
+use Rattle.sim_board.proofs.Kept.{still_used}
 use Rattle.sim_board.proofs.machine.SimBoardBoard.step.Goals as goal
 
 pub step_core-exit-requires : goal.step_core-exit-requires
@@ -29,3 +30,18 @@ step_core-exit-requires c =
     let memory : self.memory ≡ Some c.in-Some.memory = search rules in
     λ at stored. subst (λ m. IsTrue (is_held m at)) memory (self.sound.used at (confined_store (shape_data self.shape) at c.deref.result.now confined
     (subst (λ ports. IsTrue (reaches (stage2 c.deref.result.now) (is_port_of ports) Write at)) c.deref-2.ensures.0 stored)))
+
+pub invariant_of-self : goal.invariant_of-self
+invariant_of-self c =
+    let self = c.args.self.now in
+    let memory : self.memory ≡ Some c.in-Some.memory = search rules in
+    record {
+      sound = record {
+        used = still_used self.shape self.memory c.in-Some.memory c.step_core-exit.new.memory memory c.step_core-exit.ensures.kept self.sound.used;
+        cores = search rules;
+        entries_len = self.sound.entries_len;
+        confined = self.sound.confined;
+        within = omega (arith, self.sound.within);
+        events = self.sound.events;
+      };
+    }
