@@ -1,17 +1,15 @@
 //! Each answer of the program: its status, its line, and what was done before it.
 
 use crate::runs::{
-    CONFIG, FOREVER, RUN, check, image_of, sample_shelf, shelf_of, steps, strings, told,
+    FIVE, FOREVER, RUN, check, image_of, sample_shelf, shelf_of, steps, strings, told,
 };
+use crate::samples::ONE_VM;
 use bao_run::run_bao;
 use outside::{MemSink, SureShelf};
 use sim_board::SimBoard;
 use std::alloc::Global;
 use std::process::Abort;
 use std::test::Fail;
-
-/// `movz x0, #5` and `b .`
-const FIVE: [u32; 2] = [0xd280_00a0, 0x1400_0000];
 
 /// What `FIVE` leaves after three steps.
 const FIVE_REPORT: &str = "vm a
@@ -69,9 +67,9 @@ const USAGE: &str = "usage: run CONFIG SCHEDULE or check CONFIG or gen N\n";
 
 const OTHER: &str = "not built words\n";
 
-/// Words that aren't those of a run, with the status and the line that they get.
+/// Words that aren't those of a run or a check, with the status and the line that they get.
 #[rattlefmt::skip]
-static WORDS: [(&[&str], u8, &str); 19] = [
+static WORDS: [(&[&str], u8, &str); 18] = [
     // words                                       status line
     (&[],                                            2, USAGE),
     (&[""],                                          2, USAGE),
@@ -81,7 +79,6 @@ static WORDS: [(&[&str], u8, &str); 19] = [
     (&["Run", "config.toml", "schedule.txt"],        2, USAGE),
     (&["runs", "config.toml", "schedule.txt"],       2, USAGE),
     (&["check"],                                     2, USAGE),
-    (&["check", "config.toml"],                     12, OTHER),
     (&["check", "config.toml", "x"],                 2, USAGE),
     (&["gen"],                                       2, USAGE),
     (&["gen", "0"],                                 12, OTHER),
@@ -186,12 +183,12 @@ fn a_million_events(rt: HostRuntime) -> Result<(), Fail> {
     check_schedule(&rt, alloc, "a million and one", &schedule, None)
 }
 
-/// Lengths of the files in bytes, 0 for a configuration that is the accepted one, and the answer.
+/// Lengths of the files in bytes, 0 for a configuration that is the sample and others for a comment, and the answer.
 #[rattlefmt::skip]
 static LIMITS: [(&str, usize, usize, usize, &str); 6] = [
     // shows                     config  image   schedule    answer
     ("a configuration too long", 65_537, 8,      0,          "status 4 entered 0 calls 1 faults 0\ntoo long config limit 65536\n"),
-    ("one just not too long",    65_536, 8,      0,          "status 12 entered 0 calls 1 faults 0\nnot built config\n"),
+    ("one just not too long",    65_536, 8,      0,          "status 6 entered 0 calls 1 faults 0\nbad shape version\n"),
     ("an image too long",        0,      32_769, 0,          "status 4 entered 0 calls 2 faults 0\ntoo long image 0 limit 32768\n"),
     ("one just not too long",    0,      32_768, 0,          "status 0 entered 0 calls 3 faults 0\nvm a\ncore 0 on\npc 0000000000100000\npstate 000003c5\nconsole 0=\nend a\ndone\n"),
     ("a schedule too long",      0,      8,      33_554_433, "status 4 entered 0 calls 3 faults 0\ntoo long schedule limit 33554432\n"),
@@ -207,7 +204,7 @@ fn check_limit(
 ) -> Result<(), Fail> {
     let [config, image, schedule] = lengths;
     let config = if config == 0 {
-        CONFIG.as_bytes().to_vec(alloc)?
+        ONE_VM.as_bytes().to_vec(alloc)?
     } else {
         vec![in alloc; b'#'; config]?
     };
@@ -258,7 +255,7 @@ fn check_failing(
     wanted: &str,
 ) -> Result<(), Fail> {
     let image = image_of(alloc, &FIVE)?;
-    let mut shelf = shelf_of(alloc, CONFIG.as_bytes(), &image, b"s 0 0\n", calls)?;
+    let mut shelf = shelf_of(alloc, ONE_VM.as_bytes(), &image, b"s 0 0\n", calls)?;
     check(rt, wanted, &told(alloc, &RUN, &mut shelf, puts)?, wanted);
     Ok(())
 }
@@ -284,7 +281,7 @@ static FAILING_NAMES: [(&[&str], &str); 4] = [
 fn check_name(rt: &impl Abort, alloc: Global, words: &[&str], wanted: &str) -> Result<(), Fail> {
     let image = image_of(alloc, &FIVE)?;
     let shows = format!(in alloc; "{words:?}")?;
-    let mut shelf = shelf_of(alloc, CONFIG.as_bytes(), &image, b"", &[3])?;
+    let mut shelf = shelf_of(alloc, ONE_VM.as_bytes(), &image, b"", &[3])?;
     check(rt, &shows, &told(alloc, words, &mut shelf, &[])?, wanted);
     Ok(())
 }
@@ -354,7 +351,7 @@ fn a_sure_shelf_and_two_runs(rt: HostRuntime) -> Result<(), Fail> {
             String::from_str(alloc, "schedule.txt")?,
         ]?;
         let contents = vec![in alloc;
-            CONFIG.as_bytes().to_vec(alloc)?,
+            ONE_VM.as_bytes().to_vec(alloc)?,
             image_of(alloc, &FIVE)?,
             b"s 0 0\ns 0 1\ns 0 2\n".to_vec(alloc)?,
         ]?;

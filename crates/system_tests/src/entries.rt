@@ -5,7 +5,7 @@ ghost use Rattle.bao_types.specs.Shape.{shape_data};
 ghost use Rattle.bao_types.specs.Region.{IsWithinMasks};
 ghost use Rattle.board.specs.Machine.{IsSafeEntry};
 ghost use Rattle.report.specs.Sample.{sample};
-ghost use Rattle.bao_run.specs.Shape.{shape_of};
+ghost use Rattle.vm_create.specs.Shape.{shape_of};
 
 use bao_types::{ByteRange, CorePlace, OutOfMemory, PortSpot, Region, Shape};
 use board::{Board, Exit};

@@ -6,9 +6,17 @@ pub use worked_rows::{rows, storing_rows};
 #[cfg(test)]
 mod answers;
 #[cfg(test)]
+mod checks;
+#[cfg(test)]
 mod entries;
+#[cfg(test)]
+mod layouts;
 #[cfg(test)]
 mod programs;
 #[cfg(test)]
+mod refusals;
+#[cfg(test)]
 mod runs;
+#[cfg(test)]
+mod samples;
 mod worked_rows;

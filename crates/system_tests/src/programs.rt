@@ -96,7 +96,7 @@ const CHECKSUM: [u32; 65] = [
 ];
 
 /// Puts 0x108000 into X1 and 0x1122_3344_5566_7788 into X0.
-const PLACE_AND_NUMBER: [u32; 6] = [
+pub(crate) const PLACE_AND_NUMBER: [u32; 6] = [
     0xd290_0001,
     0xf2a0_0201,
     0xd28e_f100,

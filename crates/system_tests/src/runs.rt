@@ -1,5 +1,6 @@
 //! Runs of the whole program over the simulated board, each told as one text.
 
+use crate::samples::ONE_VM;
 use bao_run::run_bao;
 use board::Board;
 use outside::{MemShelf, MemSink};
@@ -8,32 +9,15 @@ use std::alloc::Global;
 use std::process::Abort;
 use std::test::Fail;
 
-/// The configuration that is accepted.
-pub(crate) const CONFIG: &str = "version = 1
-[platform]
-banks = [{ base = 0x0, size = 0x200000 }]
-cores = [16]
-gicd = 0xaf000000
-gicr = 0xaf100000
-ports = [{ id = 0, base = 0x9c090000, spi = 32 }]
-[hypervisor]
-base = 0x0
-size = 0x10000
-[[vm]]
-name = \"a\"
-image = \"a.bin\"
-load = 0x100000
-room = 0x8000
-entry = 0x100000
-cores = [0]
-regions = [{ base = 0x100000, size = 0x10000, access = \"rwx\" }]
-devs = [{ port = 0, irq = 40 }]
-";
-
 /// `b .`, which goes on for ever.
 pub(crate) const FOREVER: [u32; 1] = [0x1400_0000];
 
 pub(crate) const RUN: [&str; 3] = ["run", "config.toml", "schedule.txt"];
+
+pub(crate) const CHECK: [&str; 2] = ["check", "config.toml"];
+
+/// `movz x0, #5` and `b .`
+pub(crate) const FIVE: [u32; 2] = [0xd280_00a0, 0x1400_0000];
 
 pub(crate) fn strings(alloc: Global, texts: &[&str]) -> Result<Vec<String>, Fail> {
     let mut strings = Vec::new(alloc);
@@ -82,9 +66,9 @@ pub(crate) fn shelf_of(
     Ok(MemShelf::new(alloc, names, contents, failing.to_vec(alloc)?))
 }
 
-/// The same with the accepted configuration and no call that fails.
+/// The same with the sample and no call that fails.
 pub(crate) fn sample_shelf(alloc: Global, image: &[u8], schedule: &[u8]) -> Result<MemShelf, Fail> {
-    shelf_of(alloc, CONFIG.as_bytes(), image, schedule, &[])
+    shelf_of(alloc, ONE_VM.as_bytes(), image, schedule, &[])
 }
 
 /// What a call of the program left, whose sink fails at the puts of these numbers, from 1: its status, how many steps the
