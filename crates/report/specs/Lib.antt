@@ -1,4 +1,3 @@
-pub mod Sample
 pub mod Digits
 pub mod Lines
 pub mod Section

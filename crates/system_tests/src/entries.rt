@@ -4,7 +4,7 @@ ghost use Rattle.std.specs.Prelude.{◌≡◌, true, false, OnOk};
 ghost use Rattle.bao_types.specs.Shape.{shape_data};
 ghost use Rattle.bao_types.specs.Region.{IsWithinMasks};
 ghost use Rattle.board.specs.Machine.{IsSafeEntry};
-ghost use Rattle.report.specs.Sample.{sample};
+ghost use Rattle.system_tests.specs.Sample.{sample};
 ghost use Rattle.vm_create.specs.Shape.{shape_of};
 
 use bao_types::{ByteRange, CorePlace, OutOfMemory, PortSpot, Region, Shape};

@@ -1,5 +1,5 @@
 ghost use Rattle.std.specs.Prelude.{◌≡◌, [], ◌∷◌, slice_index, Some, None};
-ghost use Rattle.report.specs.Sample.{sample};
+ghost use Rattle.system_tests.specs.Sample.{sample};
 ghost use Rattle.board.specs.Machine.{core_at};
 ghost use Rattle.vm_model.specs.Flat.{flat_run, first_unbuilt, entered_count};
 ghost use Rattle.vm_model.specs.Boot.{boot};

@@ -1,5 +1,5 @@
--- The one configuration that is accepted today: one VM with one core, 64 KiB of memory and a console.
-use Rattle.std.specs.Prelude.{[], ◌∷◌, true}
+-- A worked configuration: one VM with one core, 64 KiB of memory and a console.
+use Rattle.std.specs.Prelude.{[], ◌∷◌, true, codes}
 use Rattle.bao_config.specs.Data.{ConfigData}
 
 abbrev pub sample : ConfigData
@@ -18,8 +18,8 @@ sample =
       shmems = [];
       vms =
           record {
-            name = 97 ∷ [];
-            image = 97 ∷ 46 ∷ 98 ∷ 105 ∷ 110 ∷ [];
+            name = codes "a";
+            image = codes "a.bin";
             place = record { base = 0x100000; size = 0x8000 };
             start = 0x100000;
             cores = 0 ∷ [];
