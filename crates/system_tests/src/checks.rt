@@ -13,10 +13,12 @@ use std::test::Fail;
 type Row = (&'static str, &'static [Change], &'static str);
 
 /// Two regions, of which the second is within the first and can't be written.
-const ONE_WITHIN: &str = "regions = [{ base = 0x100000, size = 0x10000, access = \"rwx\" }, { base = 0x100000, size = 0x1000, access = \"rx\" }]\n";
+const ONE_WITHIN: &str =
+    "regions = [{ base = 0x100000, size = 0x10000, access = \"rwx\" }, { base = 0x100000, size = 0x1000, access = \"rx\" }]\n";
 
 /// Two regions of the same access, one behind the other.
-const TWO_HALVES: &str = "regions = [{ base = 0x100000, size = 0x8000, access = \"rwx\" }, { base = 0x108000, size = 0x8000, access = \"rwx\" }]\n";
+const TWO_HALVES: &str =
+    "regions = [{ base = 0x100000, size = 0x8000, access = \"rwx\" }, { base = 0x108000, size = 0x8000, access = \"rwx\" }]\n";
 
 /// As little memory as there can be.
 const SMALLEST: &str = "regions = [{ base = 0x100000, size = 0x40, access = \"rwx\" }]\n";
@@ -99,12 +101,7 @@ static TWO: [Row; 2] = [
 ];
 
 /// The check of a configuration, over a shelf and a sink that fail so.
-fn told_of(
-    alloc: Global,
-    config: &[u8],
-    calls: &[u32],
-    puts: &[u32],
-) -> Result<String, Fail> {
+fn told_of(alloc: Global, config: &[u8], calls: &[u32], puts: &[u32]) -> Result<String, Fail> {
     let mut shelf = shelf_of(alloc, config, b"", b"", calls)?;
     told(alloc, &CHECK, &mut shelf, puts)
 }
@@ -185,7 +182,11 @@ static RESTS: [&str; 4] = [
 /// Whether the check of the sample without its end is as it is to be.
 fn is_right(alloc: Global, before: &[u8], rest: &[u8]) -> Result<bool, Fail> {
     let told = told_of(alloc, before, &[], &[])?;
-    if RESTS.as_slice().iter().any(|other| other.as_bytes() == rest) {
+    if RESTS
+        .as_slice()
+        .iter()
+        .any(|other| other.as_bytes() == rest)
+    {
         return Ok(told.starts_with("status 0 "));
     }
     Ok(told.starts_with("status 5 ") || told.starts_with("status 6 "))
@@ -223,7 +224,12 @@ fn check_put(
     taken: &str,
 ) -> Result<(), Fail> {
     let wanted = format!(in alloc; "status {status} entered 0 calls 1 faults 0\n{taken}")?;
-    check(rt, taken, &told_of(alloc, ONE_VM.as_bytes(), &[], &[put])?, &wanted);
+    check(
+        rt,
+        taken,
+        &told_of(alloc, ONE_VM.as_bytes(), &[], &[put])?,
+        &wanted,
+    );
     Ok(())
 }
 
@@ -256,7 +262,12 @@ fn check_failing(
     row: &(&str, &[u32], &[u32], &str),
 ) -> Result<(), Fail> {
     let (config, calls, puts, wanted) = *row;
-    check(rt, wanted, &told_of(alloc, config.as_bytes(), calls, puts)?, wanted);
+    check(
+        rt,
+        wanted,
+        &told_of(alloc, config.as_bytes(), calls, puts)?,
+        wanted,
+    );
     Ok(())
 }
 

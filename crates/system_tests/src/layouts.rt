@@ -122,8 +122,11 @@ fn machines(rt: HostRuntime) -> Result<(), Fail> {
 }
 
 /// A port of the VM, and a guard on so much at this place.
-const GUARD: &str = "devs = [{ port = 0, irq = 40 }]\nguards = [{ base = 0x108000, size = 0x40 }]\n";
-const GUARD_BEHIND: &str = "devs = [{ port = 0, irq = 40 }]\nguards = [{ base = 0x108040, size = 0x40 }]\n";
+const GUARD: &str =
+    "devs = [{ port = 0, irq = 40 }]\nguards = [{ base = 0x108000, size = 0x40 }]\n";
+
+const GUARD_BEHIND: &str =
+    "devs = [{ port = 0, irq = 40 }]\nguards = [{ base = 0x108040, size = 0x40 }]\n";
 
 /// The store was taken.
 const STORED: &str = "status 0 entered 7 calls 3 faults 0

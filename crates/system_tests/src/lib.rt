@@ -10,6 +10,8 @@ mod checks;
 #[cfg(test)]
 mod entries;
 #[cfg(test)]
+mod examples;
+#[cfg(test)]
 mod layouts;
 #[cfg(test)]
 mod programs;

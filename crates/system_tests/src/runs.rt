@@ -53,9 +53,21 @@ pub(crate) fn shelf_of(
     schedule: &[u8],
     failing: &[u32],
 ) -> Result<MemShelf, Fail> {
+    named_shelf(alloc, config, "a.bin", image, schedule, failing)
+}
+
+/// The same with an image of this name.
+pub(crate) fn named_shelf(
+    alloc: Global,
+    config: &[u8],
+    name: &str,
+    image: &[u8],
+    schedule: &[u8],
+    failing: &[u32],
+) -> Result<MemShelf, Fail> {
     let names = vec![in alloc;
         String::from_str(alloc, "config.toml")?,
-        String::from_str(alloc, "a.bin")?,
+        String::from_str(alloc, name)?,
         String::from_str(alloc, "schedule.txt")?,
     ]?;
     let contents = vec![in alloc;

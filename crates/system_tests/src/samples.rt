@@ -30,12 +30,16 @@ pub(crate) type Change = (&'static str, &'static str);
 
 /// The line of the platform's cores, and of the VM's.
 pub(crate) const CORES: &str = "cores = [16]";
+
 pub(crate) const OWN_CORES: &str = "cores = [0]";
 
 pub(crate) const BANKS: &str = "banks = [{ base = 0x0, size = 0x200000 }]";
+
 pub(crate) const HYPERVISOR: &str = "[hypervisor]\nbase = 0x0\nsize = 0x10000\n";
+
 pub(crate) const REGIONS: &str =
     "regions = [{ base = 0x100000, size = 0x10000, access = \"rwx\" }]\n";
+
 pub(crate) const DEVS: &str = "devs = [{ port = 0, irq = 40 }]\n";
 
 /// What makes the sample one whose VM has a window: shared memory, and an ipc behind the devs.
@@ -43,6 +47,7 @@ pub(crate) const SHMEM: Change = (
     "[[vm]]\n",
     "[[shmem]]\nbase = 0x180000\nsize = 0x1000\nevents = 2\n[[vm]]\n",
 );
+
 pub(crate) const WINDOW: Change = (
     DEVS,
     "devs = [{ port = 0, irq = 40 }]
