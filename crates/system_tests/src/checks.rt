@@ -92,7 +92,21 @@ ok
 
 /// Of the sample of two VMs.
 #[rattlefmt::skip]
-static TWO: [Row; 2] = [
+static TWO: [Row; 3] = [
+    ("the sample of two VMs", &[],
+        "status 0
+core 0 vm a runs 4 entries 16
+entry 0 0000000000000002 000000000000ffc1
+entry 1 0000000000100004 000000000010ffc1
+entry 2 0000000000180006 0000000000180fc1
+entry 3 000000009c090006 000000009c090003
+core 1 vm b runs 4 entries 16
+entry 0 0000000000000002 000000000000ffc1
+entry 1 0000000000140004 000000000014ffc1
+entry 2 0000000000180006 0000000000180fc1
+entry 3 000000009c0a0006 000000009c0a0003
+ok
+"),
     ("a region of b over one of a", &[("base = 0x140000, size = 0x10000", "base = 0x10ffc0, size = 0x40000")],
         "status 6\nill-formed rule 22 vm 1 item 0 0x100000+0x10000 0x10ffc0+0x40000\n"),
     ("a region of b over a window of a",
@@ -129,7 +143,7 @@ fn one_vm(rt: HostRuntime) -> Result<(), Fail> {
 }
 
 #[test]
-fn two_vms_that_overlap(rt: HostRuntime) -> Result<(), Fail> {
+fn both_vms(rt: HostRuntime) -> Result<(), Fail> {
     let sample = two_vms(rt.alloc())?;
     for row in TWO.as_slice() {
         check_row(&rt, rt.alloc(), sample.as_str(), row)?;
