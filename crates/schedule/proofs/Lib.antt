@@ -1,0 +1,5 @@
+pub mod Cuts
+pub mod Digits
+pub mod Numbers
+pub mod Lines
+pub mod Reading

@@ -6,7 +6,7 @@ use crate::cut::cut_at;
 use crate::number::number;
 
 /// What a line says, before it is judged by a configuration.
-#[derive(Clone, Copy, Debug, PartialEq, Eq)]
+#[derive(Clone, Copy)]
 pub enum Line {
     /// It is empty, or a comment.
     NoEvent,
@@ -19,6 +19,7 @@ pub enum Line {
 }
 
 /// Reads a line, which is given without its end.
+#[tactic(auto, unfolding(crate::specs::Line::line_of))]
 pub(crate) fn read_line(text: &[u8]) -> Line
     ensures { result ≡ line_of text.now }
 {
@@ -29,6 +30,7 @@ pub(crate) fn read_line(text: &[u8]) -> Line
 }
 
 /// Reads a line that is neither empty nor a comment.
+#[tactic(auto, using(crate::proofs::Lines::one_part, crate::proofs::Lines::two_parts, crate::proofs::Lines::three_parts))]
 fn read_parts(text: &[u8]) -> Line
     ensures { result ≡ parts_of text.now }
 {
