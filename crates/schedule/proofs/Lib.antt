@@ -2,4 +2,5 @@ pub mod Cuts
 pub mod Digits
 pub mod Numbers
 pub mod Lines
+pub mod Spelled
 pub mod Reading

@@ -1,5 +1,5 @@
 -- Decimal numbers, and how they are written.
-use Rattle.std.proofs.Common.{◌≡◌, ℕ, zero, suc, ◌+◌, ◌^◌, ◌<◌, ◌≤◌, Bool, true, false, ◌&&◌, List, [], ◌∷◌, length, get_or, sym, refl, ap, subst, ◌∙◌, arith}
+use Rattle.std.proofs.Common.{◌≡◌, ℕ, zero, suc, ◌+◌, ◌^◌, ◌<◌, ◌≤◌, Bool, true, false, ◌&&◌, List, [], ◌∷◌, length, get_or, sym, refl, ap, subst, ◌∙◌, arith, rules}
 use Rattle.std.specs.Prelude.{Option, Some, None, nat_lt, if◌then◌else◌}
 use Rattle.std.specs.List.{list_all}
 use Rattle.std.specs.Char.{is_ascii_digit}
@@ -33,9 +33,9 @@ plain_parts (a ∷ b ∷ others) h first = absurd (eqb-false a 48 h first)
 -- by the two tests of a number: that it fits, and that it is written so
 none_by : (v : ℕ) (text : List ℕ) (small same : Bool) → nat_lt v (2 ^ 64) ≡ small → bytes_eq text (decimal v) ≡ same
     → (v < 2 ^ 64 → text ≡ decimal v → ⊥) → None ≡ (if small && same then Some v else None)
-none_by v text true true s e no = absurd (no (ltb-true v (2 ^ 64) s) ((bytes_eq-Decides text (decimal v)).0 e))
-none_by v text true false s e no = refl
-none_by v text false same s e no = refl
+none_by v text true true s e never = absurd (never (ltb-true v (2 ^ 64) s) ((bytes_eq-Decides text (decimal v)).0 e))
+none_by v text true false s e never = refl
+none_by v text false same s e never = refl
 
 some_by : (v : ℕ) (text : List ℕ) (small same : Bool) → nat_lt v (2 ^ 64) ≡ small → bytes_eq text (decimal v) ≡ same
     → v < 2 ^ 64 → text ≡ decimal v → Some v ≡ (if small && same then Some v else None)
@@ -46,7 +46,7 @@ some_by v text false same s e low is = absurd (both_ways _ s (lt-ltb v (2 ^ 64) 
 pub no_number : (text : List ℕ) → (digits_value 10 text < 2 ^ 64 → text ≡ decimal (digits_value 10 text) → ⊥)
     → None ≡ number_of text
 unfolding number_of
-no_number text no = none_by (digits_value 10 text) text _ _ refl refl no
+no_number text never = none_by (digits_value 10 text) text _ _ refl refl never
 
 pub is_number : (text : List ℕ) → digits_value 10 text < 2 ^ 64 → text ≡ decimal (digits_value 10 text)
     → Some (digits_value 10 text) ≡ number_of text

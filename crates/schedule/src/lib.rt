@@ -7,12 +7,16 @@
 mod cut;
 mod error;
 mod event;
+mod law;
 mod line;
 mod number;
 mod places;
 mod progress;
 mod read;
+#[cfg(test)]
+mod tests;
 
 pub use error::ScheduleError;
 pub use event::Event;
+pub use law::laws_of_lines;
 pub use read::read_schedule;

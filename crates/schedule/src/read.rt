@@ -23,6 +23,7 @@ use std::alloc::Global;
 /// # Errors
 ///
 /// The first line that breaks a rule, and want of memory.
+#[tactic(auto, using(crate::proofs::Reading::begins, crate::proofs::Reading::goes_on, crate::proofs::Reading::stops, crate::proofs::Reading::ended, crate::proofs::Reading::not_ended))]
 pub fn read_schedule(alloc: Global, bytes: &[u8], checked: &Checked) -> Result<Vec<Event>, ScheduleError>
     requires { length bytes.now < 2 ^ 32 }
     ensures answer { MatchResult result
