@@ -21,7 +21,7 @@ use Rattle.schedule.proofs.Numbers.{own, number_is}
 no_blank : (digit : ℕ) → is_ascii_digit digit ≡ true → (digit == 32) ≡ false
 no_blank digit h = grind (arith, nat_tests)
 
-no_blanks : (text : List ℕ) → list_all is_ascii_digit text ≡ true → All (λ other. (other == 32) ≡ false) text
+pub no_blanks : (text : List ℕ) → list_all is_ascii_digit text ≡ true → All (λ other. (other == 32) ≡ false) text
 no_blanks [] h = All-nil (λ other. (other == 32) ≡ false)
 no_blanks (digit ∷ text) h =
     let both = and_parts (is_ascii_digit digit) (list_all is_ascii_digit text) h in
@@ -61,12 +61,14 @@ pub one_part : (text : List ℕ) → IsWhole 32 text → BadForm ≡ parts_of te
 unfolding parts_of
 one_part text whole = sym (ap entry_in whole)
 
-pub two_parts : (text kind behind : List ℕ) → IsCut 32 text kind behind → IsWhole 32 behind → BadForm ≡ parts_of text
+pub more_parts : (text kind behind : List ℕ) → IsCut 32 text kind behind → entry_in (kind ∷ parts 32 behind) ≡ parts_of text
 unfolding parts_of
-two_parts text kind behind cut whole = sym (ap entry_in (cut.cut ∙ ap (λ ps. kind ∷ ps) whole))
+more_parts text kind behind cut = sym (ap entry_in cut.cut)
 
-pub three_parts : (text kind behind first second : List ℕ) → IsCut 32 text kind behind → IsCut 32 behind first second
-    → entry_of kind (number_of first) (number_of second) ≡ parts_of text
-unfolding parts_of
-three_parts text kind behind first second cut next =
-    sym (ap entry_in (cut.cut ∙ ap (λ ps. kind ∷ ps) next.cut) ∙ behind_second kind first second (parts 32 second) refl)
+pub two_parts : (kind behind : List ℕ) → IsWhole 32 behind → BadForm ≡ entry_in (kind ∷ parts 32 behind)
+two_parts kind behind whole = sym (ap (λ ps. entry_in (kind ∷ ps)) whole)
+
+pub three_parts : (kind behind first second : List ℕ) → IsCut 32 behind first second
+    → entry_of kind (number_of first) (number_of second) ≡ entry_in (kind ∷ parts 32 behind)
+three_parts kind behind first second cut =
+    sym (ap (λ ps. entry_in (kind ∷ ps)) cut.cut ∙ behind_second kind first second (parts 32 second) refl)

@@ -61,17 +61,19 @@ with_event cfg events count said so placed above few =
     }
 
 -- a step, and an input, that break no rule
-step_passes : (a b c : Bool)
-    → (if not a then Some 2 else if b then Some 4 else if c then Some 5 else None) ≡ None → (a ≡ true) × (b ≡ false) × (c ≡ false)
-step_passes true false false h = (refl, refl, refl)
-step_passes true false true h = cc
-step_passes true true c h = cc
-step_passes false b c h = cc
+step_passes : (two four five : ℕ) (a b c : Bool)
+    → (if not a then Some two else if b then Some four else if c then Some five else None) ≡ None
+    → (a ≡ true) × (b ≡ false) × (c ≡ false)
+step_passes two four five true false false h = (refl, refl, refl)
+step_passes two four five true false true h = cc
+step_passes two four five true true c h = cc
+step_passes two four five false b c h = cc
 
-input_passes : (a c : Bool) → (if not a then Some 3 else if c then Some 5 else None) ≡ None → (a ≡ true) × (c ≡ false)
-input_passes true false h = (refl, refl)
-input_passes true true h = cc
-input_passes false c h = cc
+input_passes : (three five : ℕ) (a c : Bool) → (if not a then Some three else if c then Some five else None) ≡ None
+    → (a ≡ true) × (c ≡ false)
+input_passes three five true false h = (refl, refl)
+input_passes three five true true h = cc
+input_passes three five false c h = cc
 
 below_limit : (n : ℕ) → nat_le event_limit n ≡ false → n < event_limit
 below_limit n h = grind (arith, nat_tests)
@@ -82,11 +84,11 @@ lawful_after : (cfg : ConfigData) (reached : Reached) (line : Line)
 lawful_after cfg reached NoEvent kept so =
     subst (λ events. IsSoFar cfg events reached.count) (sym (append-nil reached.events)) so
 lawful_after cfg reached (Step core count) kept so =
-    let tests = step_passes (is_core cfg core) (nat_lt count reached.count) (nat_le event_limit (length reached.events)) kept in
+    let tests = step_passes 2 4 5 (is_core cfg core) (nat_lt count reached.count) (nat_le event_limit (length reached.events)) kept in
     with_event cfg reached.events reached.count (event.Step core count) so tests.0 (ltb-false count reached.count tests.1)
     (below_limit (length reached.events) tests.2)
 lawful_after cfg reached (Input port byte) kept so =
-    let tests = input_passes (is_assigned cfg port) (nat_le event_limit (length reached.events)) kept in
+    let tests = input_passes 3 5 (is_assigned cfg port) (nat_le event_limit (length reached.events)) kept in
     with_event cfg reached.events reached.count (event.Input port byte) so tests.0 tt (below_limit (length reached.events) tests.1)
 lawful_after cfg reached BadForm kept so = cc
 
@@ -144,9 +146,9 @@ module _ (cfg : ConfigData) (bytes : List ℕ) (reached : Reached) (rest line ot
       }
 
   -- the line was taken, of a configuration and a line that are these
-  pub goes_on : (own : ConfigData) (said : Line) (after : Reached) → own ≡ cfg → said ≡ line_of line
-      → TakesLine own reached said after → IsReading cfg bytes after others
-  goes_on own said after same here takes =
+  pub goes_on : (own : ConfigData) (said : Line) (after : Reached) → TakesLine own reached said after → own ≡ cfg
+      → said ≡ line_of line → IsReading cfg bytes after others
+  goes_on own said after takes same here =
       let these : TakesLine cfg reached (line_of line) after =
       subst (λ l. TakesLine cfg reached l after) here (subst (λ g. TakesLine g reached said after) same takes) in
       subst (λ r. IsReading cfg bytes r others) (sym these.taken) (with_one these.kept)
@@ -156,9 +158,9 @@ module _ (cfg : ConfigData) (bytes : List ℕ) (reached : Reached) (rest line ot
   broken_here OutOfMemory refused = tt
 
   -- the line was refused
-  pub stops : (own : ConfigData) (said : Line) (error : ScheduleError) → own ≡ cfg → said ≡ line_of line
-      → IsRefused own reached said error → TellsBroken (schedule_of cfg bytes) error
-  stops own said error same here refused =
+  pub stops : (own : ConfigData) (said : Line) (error : ScheduleError) → IsRefused own reached said error → own ≡ cfg
+      → said ≡ line_of line → TellsBroken (schedule_of cfg bytes) error
+  stops own said error refused same here =
       broken_here error
       (subst (λ l. IsRefused cfg reached l error) here (subst (λ g. IsRefused g reached said error) same refused))
 

@@ -94,11 +94,14 @@ step_by kind a b core count true i e h = ((bytes_eq-Decides kind (codes "s")).0 
 step_by kind a b core count false true e h = cc
 step_by kind a b core count false false e h = cc
 
+is_byte : (b : ℕ) → nat_le b 255 ≡ true → b < 256
+is_byte b h = grind (arith, nat_tests)
+
 input_by : (kind : List ℕ) (a b port byte : ℕ) (s i small : Bool) → bytes_eq kind (codes "i") ≡ i → nat_le b 255 ≡ small
     → (if s then Step a b else if i && small then Input a b else BadForm) ≡ Input port byte
     → (kind ≡ codes "i") × (a ≡ port) × (b ≡ byte) × (b < 256)
 input_by kind a b port byte true i small e l h = cc
-input_by kind a b port byte false true true e l h = ((bytes_eq-Decides kind (codes "i")).0 e, cc, cc, grind (arith, nat_tests))
+input_by kind a b port byte false true true e l h = ((bytes_eq-Decides kind (codes "i")).0 e, cc, cc, is_byte b l)
 input_by kind a b port byte false true false e l h = cc
 input_by kind a b port byte false false small e l h = cc
 

@@ -1,6 +1,7 @@
 //! What a line says.
-ghost use Rattle.std.specs.Prelude.{◌≡◌};
-ghost use Rattle.schedule.specs.Line.{line_of, parts_of, entry_of};
+ghost use Rattle.std.specs.Prelude.{◌≡◌, ◌∷◌};
+ghost use Rattle.schedule.specs.Parts.{parts};
+ghost use Rattle.schedule.specs.Line.{line_of, parts_of, entry_in, entry_of};
 
 use crate::cut::cut_at;
 use crate::number::number;
@@ -30,13 +31,21 @@ pub(crate) fn read_line(text: &[u8]) -> Line
 }
 
 /// Reads a line that is neither empty nor a comment.
-#[tactic(auto, using(crate::proofs::Lines::one_part, crate::proofs::Lines::two_parts, crate::proofs::Lines::three_parts))]
+#[tactic(auto, using(crate::proofs::Lines::one_part, crate::proofs::Lines::more_parts))]
 fn read_parts(text: &[u8]) -> Line
     ensures { result ≡ parts_of text.now }
 {
     let Some((kind, behind)) = cut_at(text, b' ') else {
         return Line::BadForm;
     };
+    read_numbers(kind, behind)
+}
+
+/// Reads what stands behind the first blank.
+#[tactic(auto, using(crate::proofs::Lines::two_parts, crate::proofs::Lines::three_parts))]
+fn read_numbers(kind: &[u8], behind: &[u8]) -> Line
+    ensures { result ≡ entry_in (kind.now ∷ parts 32 behind.now) }
+{
     let Some((first, second)) = cut_at(behind, b' ') else {
         return Line::BadForm;
     };
