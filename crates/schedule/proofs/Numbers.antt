@@ -81,9 +81,10 @@ module _ (text : List ℕ) (h : is_padded text ≡ false) where
       let outer = and_parts _ _ e in
       let inner = and_parts _ _ outer.1 in
       let low : digits_value 10 text < 2 ^ 64 = ltb-true (digits_value 10 text) (2 ^ 64) inner.1 in
-      let some : 0 < length text = ltb-true 0 (length text) outer.0 in
-      (low,
-      sym (decimal-digits_value own text inner.0 some (λ first. omega (arith, some, plain_parts text h first)) low))
+      let some : 0 < length text = ltb-true 0 (length text) outer.0 in (
+        low,
+        sym (decimal-digits_value own text inner.0 some (λ first. omega (arith, some, plain_parts text h first)) low),
+      )
 
   numeral : digits_value 10 text < 2 ^ 64 → text ≡ decimal (digits_value 10 text) → is_numeral text ≡ true
   numeral low is =

@@ -119,9 +119,10 @@ module _ (text kind first second : List ℕ) (e : parts 32 text ≡ kind ∷ fir
   input_numbers port byte None n f s h = cc
   input_numbers port byte (Some a) None f s h = cc
   input_numbers port byte (Some a) (Some b) f s h =
-      let facts = input_by kind a b port byte (bytes_eq kind (codes "s")) _ _ refl refl h in
-      (entry_made kind first second 105 port byte facts.0 (f ∙ ap Some facts.1) (s ∙ ap Some facts.2) text e,
-      omega (arith, facts.3, facts.2))
+      let facts = input_by kind a b port byte (bytes_eq kind (codes "s")) _ _ refl refl h in (
+        entry_made kind first second 105 port byte facts.0 (f ∙ ap Some facts.1) (s ∙ ap Some facts.2) text e,
+        omega (arith, facts.3, facts.2),
+      )
 
 step_parts : (text : List ℕ) (core count : ℕ) (ps : List (List ℕ)) → parts 32 text ≡ ps → entry_in ps ≡ Step core count
     → IsEntry text 115 core count

@@ -24,7 +24,11 @@ use std::alloc::Global;
 ///
 /// The first line that breaks a rule, and want of memory.
 #[tactic(auto, using(crate::proofs::Reading::begins, crate::proofs::Reading::goes_on, crate::proofs::Reading::stops, crate::proofs::Reading::ended, crate::proofs::Reading::not_ended))]
-pub fn read_schedule(alloc: Global, bytes: &[u8], checked: &Checked) -> Result<Vec<Event>, ScheduleError>
+pub fn read_schedule(
+    alloc: Global,
+    bytes: &[u8],
+    checked: &Checked,
+) -> Result<Vec<Event>, ScheduleError>
     requires { length bytes.now < 2 ^ 32 }
     ensures answer { MatchResult result
         (λ events. schedule_of (checked_data checked.now) bytes.now ≡ Events events.items)
