@@ -1,0 +1,185 @@
+-- A schedule, line by line.
+use Rattle.std.proofs.Common.{◌≡◌, ℕ, ◌+◌, ◌<◌, ◌≤◌, Bool, true, false, List, [], ◌∷◌, ◌++◌, length, sym, refl, ap, subst, ◌∙◌, arith, length-append, append-nil}
+use Rattle.std.specs.Prelude.{Option, Some, None, Result, Ok, Err, All, nat_le, nat_lt, not, if◌then◌else◌, option_to_list, ⊤}
+use Rattle.std.proofs.lemmas.Bool.{ltb-false}
+use Rattle.std.proofs.lemmas.Bool.Decides.{nat_tests}
+use Rattle.std.proofs.lemmas.List.Elements.{All-nil, All-push}
+use Rattle.bao_types.specs.Shape.{event_limit}
+use Rattle.bao_config.specs.Data.{ConfigData}
+use Rattle.schedule.specs.Parts.{parts, IsWhole, IsCut}
+use Rattle.schedule.specs.Line.{line_of}
+use Rattle.schedule.specs.Rules.{is_core, is_assigned, event_of, broken_rule, unless_broken}
+use Rattle.schedule.specs.Schedule.{ScheduleAnswer, Events, Broken, Reached, nothing_yet, count_behind, count_after, with_line, unless_bad, at_end, answer_from, schedule_of}
+use Rattle.schedule.specs.Lawful.{IsPlaced, NeverFall, IsLawful}
+use Rattle.schedule.specs.Answer.{TellsBroken, TakesLine, IsRefused}
+use Rattle.schedule.specs.declared.line.Line.{Line}
+use Rattle.schedule.specs.declared.line.Line.TheVariants.{NoEvent, Step, Input, BadForm}
+use Rattle.schedule.specs.declared.event.Event.{Event}
+use Rattle.schedule.specs.declared.event.Event.TheVariants as event
+use Rattle.schedule.specs.declared.error.ScheduleError.{ScheduleError}
+use Rattle.schedule.specs.declared.error.ScheduleError.TheVariants.{Bad, OutOfMemory}
+use Rattle.schedule.proofs.Cuts.{some_part}
+
+-- the count of the last step of these events
+abbrev pub last_of : ℕ → List Event → ℕ
+last_of last [] = last
+last_of last (first ∷ events) = last_of (count_behind last first) events
+
+last_of-push : (last : ℕ) (events : List Event) (said : Event)
+    → last_of last (events ++ said ∷ []) ≡ count_behind (last_of last events) said
+last_of-push last [] said = refl
+last_of-push last (first ∷ events) said = last_of-push (count_behind last first) events said
+
+-- the count of a step isn't below this one
+abbrev pub IsNotBelow : ℕ → Event → Type 0
+IsNotBelow last (event.Step core count) = last ≤ count
+IsNotBelow last (event.Input port byte) = ⊤
+
+never_fall-push : (last : ℕ) (events : List Event) (said : Event) → NeverFall last events → IsNotBelow (last_of last events) said
+    → NeverFall last (events ++ said ∷ [])
+never_fall-push last [] (event.Step core count) so above = (above, tt)
+never_fall-push last [] (event.Input port byte) so above = tt
+never_fall-push last (event.Step core count ∷ events) said so above = (so.0, never_fall-push count events said so.1 above)
+never_fall-push last (event.Input port byte ∷ events) said so above = never_fall-push last events said so above
+
+-- the events so far are lawful, and this is the count of the last step
+pub record IsSoFar (cfg : ConfigData) (events : List Event) (count : ℕ) : Type 0 where
+  pub lawful : IsLawful cfg events
+  pub last : last_of 0 events ≡ count
+
+with_event : (cfg : ConfigData) (events : List Event) (count : ℕ) (said : Event) → IsSoFar cfg events count → IsPlaced cfg said
+    → IsNotBelow count said → length events < event_limit → IsSoFar cfg (events ++ said ∷ []) (count_behind count said)
+with_event cfg events count said so placed above few =
+    record {
+      lawful =
+          record {
+            placed = All-push (IsPlaced cfg) events said so.lawful.placed placed;
+            counts = never_fall-push 0 events said so.lawful.counts (subst (λ n. IsNotBelow n said) (sym so.last) above);
+            few = omega (arith, few, length-append events (said ∷ []));
+          };
+      last = last_of-push 0 events said ∙ ap (λ n. count_behind n said) so.last;
+    }
+
+-- a step, and an input, that break no rule
+step_passes : (two four five : ℕ) (a b c : Bool)
+    → (if not a then Some two else if b then Some four else if c then Some five else None) ≡ None
+    → (a ≡ true) × (b ≡ false) × (c ≡ false)
+step_passes two four five true false false h = (refl, refl, refl)
+step_passes two four five true false true h = cc
+step_passes two four five true true c h = cc
+step_passes two four five false b c h = cc
+
+input_passes : (three five : ℕ) (a c : Bool) → (if not a then Some three else if c then Some five else None) ≡ None
+    → (a ≡ true) × (c ≡ false)
+input_passes three five true false h = (refl, refl)
+input_passes three five true true h = cc
+input_passes three five false c h = cc
+
+below_limit : (n : ℕ) → nat_le event_limit n ≡ false → n < event_limit
+below_limit n h = grind (arith, nat_tests)
+
+lawful_after : (cfg : ConfigData) (reached : Reached) (line : Line)
+    → broken_rule cfg reached.count (length reached.events) line ≡ None → IsSoFar cfg reached.events reached.count
+    → IsSoFar cfg (reached.events ++ option_to_list (event_of line)) (count_after reached.count (event_of line))
+lawful_after cfg reached NoEvent kept so =
+    subst (λ events. IsSoFar cfg events reached.count) (sym (append-nil reached.events)) so
+lawful_after cfg reached (Step core count) kept so =
+    let tests = step_passes 2 4 5 (is_core cfg core) (nat_lt count reached.count) (nat_le event_limit (length reached.events)) kept in
+    with_event cfg reached.events reached.count (event.Step core count) so tests.0 (ltb-false count reached.count tests.1)
+    (below_limit (length reached.events) tests.2)
+lawful_after cfg reached (Input port byte) kept so =
+    let tests = input_passes 3 5 (is_assigned cfg port) (nat_le event_limit (length reached.events)) kept in
+    with_event cfg reached.events reached.count (event.Input port byte) so tests.0 tt (below_limit (length reached.events) tests.1)
+lawful_after cfg reached BadForm kept so = cc
+
+-- so far the lines before the rest were read; what is left decides
+pub record IsReading (cfg : ConfigData) (bytes : List ℕ) (reached : Reached) (rest : List ℕ) : Type 0 where
+  pub left : schedule_of cfg bytes ≡ answer_from cfg reached (parts 10 rest)
+  pub lines : reached.lines + length rest ≤ length bytes
+  pub so_far : IsSoFar cfg reached.events reached.count
+
+pub begins : (cfg : ConfigData) (bytes : List ℕ) → IsReading cfg bytes nothing_yet bytes
+unfolding schedule_of
+begins cfg bytes =
+    record {
+      left = refl;
+      lines = omega arith;
+      so_far =
+          record {
+            lawful = record { placed = All-nil (IsPlaced cfg); counts = tt; few = omega arith };
+            last = refl;
+          };
+    }
+
+-- the first line decides, where something stands behind it
+next_line : (cfg : ConfigData) (reached : Reached) (line : List ℕ) (more : List (List ℕ)) → 0 < length more
+    → answer_from cfg reached (line ∷ more)
+    ≡ unless_bad (reached.lines + 1) (broken_rule cfg reached.count (length reached.events) (line_of line))
+    (answer_from cfg (with_line (line_of line) reached) more)
+unfolding answer_from
+next_line cfg reached line [] some = absurd (omega arith)
+next_line cfg reached line (next ∷ others) some = refl
+
+module _ (cfg : ConfigData) (bytes : List ℕ) (reached : Reached) (rest line others : List ℕ)
+    (reading : IsReading cfg bytes reached rest) (cut : IsCut 10 rest line others) where
+  at_line : schedule_of cfg bytes
+      ≡ unless_bad (reached.lines + 1) (broken_rule cfg reached.count (length reached.events) (line_of line))
+      (answer_from cfg (with_line (line_of line) reached) (parts 10 others))
+  at_line =
+      reading.left ∙ ap (answer_from cfg reached) cut.cut
+      ∙ next_line cfg reached line (parts 10 others) (some_part 10 others)
+
+  by_rule : (rule : Option ℕ) → broken_rule cfg reached.count (length reached.events) (line_of line) ≡ rule
+      → schedule_of cfg bytes
+      ≡ unless_bad (reached.lines + 1) rule (answer_from cfg (with_line (line_of line) reached) (parts 10 others))
+  by_rule rule is =
+      at_line
+      ∙ ap (λ r. unless_bad (reached.lines + 1) r (answer_from cfg (with_line (line_of line) reached) (parts 10 others))) is
+
+  with_one : broken_rule cfg reached.count (length reached.events) (line_of line) ≡ None
+      → IsReading cfg bytes (with_line (line_of line) reached) others
+  with_one kept =
+      record {
+        left = by_rule None kept;
+        lines = omega (arith, reading.lines, cut.fewer);
+        so_far = lawful_after cfg reached (line_of line) kept reading.so_far;
+      }
+
+  -- the line was taken, of a configuration and a line that are these
+  pub goes_on : (own : ConfigData) (said : Line) (after : Reached) → TakesLine own reached said after → own ≡ cfg
+      → said ≡ line_of line → IsReading cfg bytes after others
+  goes_on own said after takes same here =
+      let these : TakesLine cfg reached (line_of line) after =
+      subst (λ l. TakesLine cfg reached l after) here (subst (λ g. TakesLine g reached said after) same takes) in
+      subst (λ r. IsReading cfg bytes r others) (sym these.taken) (with_one these.kept)
+
+  broken_here : (error : ScheduleError) → IsRefused cfg reached (line_of line) error → TellsBroken (schedule_of cfg bytes) error
+  broken_here (Bad number rule) refused = by_rule (Some rule) refused.1 ∙ ap (λ n. Broken n rule) (sym refused.0)
+  broken_here OutOfMemory refused = tt
+
+  -- the line was refused
+  pub stops : (own : ConfigData) (said : Line) (error : ScheduleError) → IsRefused own reached said error → own ≡ cfg
+      → said ≡ line_of line → TellsBroken (schedule_of cfg bytes) error
+  stops own said error refused same here =
+      broken_here error
+      (subst (λ l. IsRefused cfg reached l error) here (subst (λ g. IsRefused g reached said error) same refused))
+
+none_left : (rest : List ℕ) → length rest ≡ 0 → rest ≡ []
+none_left [] none = refl
+none_left (first ∷ rest) none = absurd (omega arith)
+
+some_left : (reached : Reached) (rest : List ℕ) → 0 < length rest → at_end reached rest ≡ Broken (reached.lines + 1) 1
+some_left reached [] some = absurd (omega arith)
+some_left reached (first ∷ rest) some = refl
+
+module _ (cfg : ConfigData) (bytes : List ℕ) (reached : Reached) (rest : List ℕ) (reading : IsReading cfg bytes reached rest)
+    (whole : IsWhole 10 rest) where
+  at_rest : schedule_of cfg bytes ≡ at_end reached rest
+  unfolding answer_from
+  at_rest = reading.left ∙ ap (answer_from cfg reached) whole
+
+  pub ended : length rest ≡ 0 → schedule_of cfg bytes ≡ Events reached.events
+  ended none = at_rest ∙ ap (at_end reached) (none_left rest none)
+
+  pub not_ended : 0 < length rest → schedule_of cfg bytes ≡ Broken (reached.lines + 1) 1
+  not_ended some = at_rest ∙ some_left reached rest some
