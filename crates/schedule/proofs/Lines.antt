@@ -1,10 +1,9 @@
 -- A line, cut at its blanks.
-use Rattle.std.proofs.Common.{◌≡◌, ℕ, ◌+◌, ◌<◌, ◌≤◌, ◌==◌, Bool, true, false, List, [], ◌∷◌, length, sym, refl, ap, subst, ◌∙◌, arith}
+use Rattle.std.proofs.Common.{◌≡◌, ℕ, ◌==◌, true, false, List, [], ◌∷◌, length, sym, refl, ap, subst, ◌∙◌, arith}
 use Rattle.std.specs.Prelude.{Option, Some, None}
-use Rattle.std.specs.List.{All, list_all, slice_split, join_with_byte}
+use Rattle.std.specs.List.{All, list_all, join_with_byte}
 use Rattle.std.specs.Char.{is_ascii_digit}
-use Rattle.std.specs.Fmt.{decimal}
-use Rattle.std.proofs.lemmas.Bool.{and_parts, eqb-true}
+use Rattle.std.proofs.lemmas.Bool.{and_parts}
 use Rattle.std.proofs.lemmas.Bool.Decides.{nat_tests}
 use Rattle.std.proofs.lemmas.List.Elements.{All-nil, All-cons}
 use Rattle.std.proofs.lemmas.List.Splits.{slice_split_none, join_with_byte-slice_split}
@@ -12,7 +11,6 @@ use Rattle.std.proofs.lemmas.Fmt.{digits_decimal}
 use Rattle.schedule.specs.Parts.{parts, IsWhole, IsCut}
 use Rattle.schedule.specs.Number.{number_of}
 use Rattle.schedule.specs.Line.{entry_of, entry_in, parts_of}
-use Rattle.schedule.specs.declared.line.Line.{Line}
 use Rattle.schedule.specs.declared.line.Line.TheVariants.{BadForm}
 use Rattle.schedule.proofs.Cuts.{some_part}
 use Rattle.schedule.proofs.Numbers.{own, number_is}

@@ -1,8 +1,8 @@
 -- What a contract sees of a schedule that is being read, and of a refusal.
-use Rattle.std.specs.Prelude.{◌≡◌, ℕ, ◌+◌, length, None, Some, ⊤}
+use Rattle.std.specs.Prelude.{◌≡◌, ◌+◌, length, None, Some, ⊤}
 use Rattle.bao_config.specs.Data.{ConfigData}
 use Rattle.schedule.specs.Rules.{broken_rule}
-use Rattle.schedule.specs.Schedule.{Reached, with_line, ScheduleAnswer, Events, Broken}
+use Rattle.schedule.specs.Schedule.{Reached, with_line, ScheduleAnswer, Broken}
 use Rattle.schedule.specs.declared.line.Line.{Line}
 use Rattle.schedule.specs.declared.progress.Progress.{Progress}
 use Rattle.schedule.specs.declared.error.ScheduleError.{ScheduleError}

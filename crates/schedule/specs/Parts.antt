@@ -1,5 +1,5 @@
 -- A text in parts, cut at each byte of one value.
-use Rattle.std.specs.Prelude.{◌≡◌, ℕ, ◌+◌, ◌<◌, ◌==◌, List, [], ◌∷◌, length}
+use Rattle.std.specs.Prelude.{◌≡◌, ℕ, ◌<◌, ◌==◌, List, [], ◌∷◌, length}
 use Rattle.std.specs.List.{slice_split}
 
 -- the parts between the bytes of that value: one more than there are such bytes

@@ -1,8 +1,8 @@
 -- The rules that a line is judged by, one test each.
-use Rattle.std.specs.Prelude.{ℕ, ◌&&◌, nat_le, nat_lt, not, Bool, true, false, if◌then◌else◌, List, [], ◌∷◌, length, Option, None, Some, Result, Ok, Err}
+use Rattle.std.specs.Prelude.{ℕ, nat_le, nat_lt, not, Bool, true, false, if◌then◌else◌, [], length, Option, None, Some, Result, Ok, Err}
 use Rattle.std.specs.List.{list_any}
 use Rattle.bao_types.specs.Shape.{event_limit}
-use Rattle.bao_config.specs.Data.{ConfigData, VmData}
+use Rattle.bao_config.specs.Data.{ConfigData}
 use Rattle.bao_wellformed.specs.Map.{has_port}
 use Rattle.schedule.specs.declared.line.Line.{Line}
 use Rattle.schedule.specs.declared.line.Line.TheVariants.{NoEvent, Step, Input, BadForm}

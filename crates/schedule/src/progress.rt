@@ -1,5 +1,5 @@
 //! A schedule, read line by line.
-ghost use Rattle.std.specs.Prelude.{◌≡◌, ◌+◌, ◌<◌, ◌^◌, nat_le, if◌then◌else◌, length, MatchResult};
+ghost use Rattle.std.specs.Prelude.{◌≡◌, ◌+◌, ◌<◌, ◌^◌, nat_le, if◌then◌else◌, MatchResult};
 ghost use Rattle.bao_config.specs.Config.{config_data};
 ghost use Rattle.schedule.specs.Rules.{event_of, broken_rule, unless_broken};
 ghost use Rattle.schedule.specs.Answer.{reached_by, TakesLine, IsRefused};

@@ -1,4 +1,4 @@
-use Rattle.std.proofs.Common.{ℕ, ◌+◌, ◌==◌, length, drop, ap, ◌∙◌, arith, rules, drop-drop}
+use Rattle.std.proofs.Common.{ℕ, ◌==◌, length, drop, ap, ◌∙◌, arith, rules, drop-drop}
 use Rattle.std.proofs.lemmas.List.Sums.{position_or_len_is}
 use Rattle.schedule.proofs.Cuts.{cut_first, whole}
 use Rattle.schedule.proofs.cut.cut_at.Goals as goal
