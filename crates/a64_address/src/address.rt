@@ -6,6 +6,7 @@ ghost use Rattle.a64_address.specs.Address.{address_of, back_of};
 use a64_decode::IndexMode;
 
 /// The address of an access by its base and offset.
+#[inline(always)]
 pub(crate) fn address(mode: IndexMode, base: u64, offset: u64) -> u64
     ensures { result ≡ address_of mode base offset }
 {
@@ -16,6 +17,7 @@ pub(crate) fn address(mode: IndexMode, base: u64, offset: u64) -> u64
 }
 
 /// What is written back to the base.
+#[inline(always)]
 pub(crate) fn back(mode: IndexMode, base: u64, offset: u64) -> Option<u64>
     ensures { result ≡ back_of mode base offset }
 {

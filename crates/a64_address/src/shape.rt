@@ -38,6 +38,7 @@ pub struct MemShape {
 /// "Loads and stores").
 #[tactic(auto, unfolding(crate::specs::Shape::memory_shape, a64_decode::specs::Access::access_of))]
 #[rattlefmt::skip]
+#[inline(always)]
 pub fn shape_of(core: &Core, instr: &Instr) -> Option<MemShape>
     requires { IsLawful instr.now }
     ensures shape { result ≡ memory_shape core.now instr.now }
@@ -70,6 +71,7 @@ pub fn shapes_agree()
 {}
 
 /// An offset that counts elements, where it is scaled, in bytes.
+#[inline(always)]
 fn scaled_by(size: Size, scaled: bool, offset: u64) -> u64
     ensures { result ≡ shifted_left offset (if scaled then scale_of size else 0) }
 {
@@ -111,6 +113,7 @@ fn literal(core: &Core, kind: LiteralKind, offset: u64) -> Option<MemShape>
 }
 
 /// A load or store of one register at an offset in bytes from its base.
+#[inline(always)]
 fn single(
     core: &Core,
     size: Size,
@@ -150,6 +153,7 @@ fn single(
 }
 
 /// A load or store of two registers at an offset from their base, which counts elements.
+#[inline(always)]
 fn pair(core: &Core, kind: PairKind, mode: IndexMode, load: bool, rn: Reg, offset: u64) -> MemShape
     requires { IsReg rn }
     ensures shape { result ≡ record {

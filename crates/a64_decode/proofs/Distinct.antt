@@ -3,7 +3,8 @@ use Rattle.std.proofs.Common.{◌≡◌, ◌≢◌, ◌<◌, ℕ, ◌^◌, Bool,
 use Rattle.a64_decode.specs.declared.instr.Instr.TheVariants.{Undefined}
 use Rattle.a64_decode.specs.Pattern.{Row, matches, free_fields, reading_of, first_reading}
 use Rattle.a64_decode.specs.Table.{table, branch_rows, system_rows, register_rows, source_rows, load_store_rows, decoded, AreDistinct}
-use Rattle.a64_decode.proofs.Encoding.{word_of, Returns, address-returns, add_sub_immediate-returns, logical_immediate-returns, move_wide-returns, bitfield-returns, extract-returns, branch-returns, branch_conditional-returns, compare_branch-returns, test_branch-returns, branch_register-returns, exception_return-returns, exception-returns, hint-returns, barrier-returns, msr_immediate-returns, system-returns, system_register-returns, logical_shifted-returns, add_sub_shifted-returns, add_sub_extended-returns, add_sub_carry-returns, conditional_compare-returns, conditional_select-returns, three_sources-returns, two_sources-returns, one_source-returns, load_literal-returns, pair-returns, load_store_unsigned-returns, load_store_indexed-returns, load_store_register-returns}
+use Rattle.a64_decode.specs.Word.{word_of}
+use Rattle.a64_decode.proofs.Encoding.{Returns, address-returns, add_sub_immediate-returns, logical_immediate-returns, move_wide-returns, bitfield-returns, extract-returns, branch-returns, branch_conditional-returns, compare_branch-returns, test_branch-returns, branch_register-returns, exception_return-returns, exception-returns, hint-returns, barrier-returns, msr_immediate-returns, system-returns, system_register-returns, logical_shifted-returns, add_sub_shifted-returns, add_sub_extended-returns, add_sub_carry-returns, conditional_compare-returns, conditional_select-returns, three_sources-returns, two_sources-returns, one_source-returns, load_literal-returns, pair-returns, load_store_unsigned-returns, load_store_indexed-returns, load_store_register-returns}
 
 -- a row that matches
 by_test : (row : Row) (word : ℕ) → word < 2 ^ 32 → Returns row → matches 32 row.parts word ≡ true

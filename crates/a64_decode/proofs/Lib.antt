@@ -1,4 +1,5 @@
 mod Words
 mod Numbers
 mod Encoding
-mod Distinct
+pub mod Distinct
+pub mod Class

@@ -3,47 +3,8 @@ use Rattle.std.proofs.Common.{◌≡◌, ◌<◌, ℕ, zero, suc, ◌+◌, ◌*�
 use Rattle.std.proofs.lemmas.Bool.{eqb-true}
 use Rattle.std.proofs.Math.Nat.{mod-eq_of_lt, add-mul-mod_self_right}
 use Rattle.std.proofs.lemmas.Bool.Decides.{eqb_tells}
-use Rattle.a64_decode.specs.declared.operand.Condition.{Condition}
-use Rattle.a64_decode.specs.declared.operand.Condition.TheVariants as condition
-use Rattle.a64_decode.specs.declared.operand.Shift.{Shift}
-use Rattle.a64_decode.specs.declared.operand.Shift.TheVariants.{Lsl, Lsr, Asr, Ror}
-use Rattle.a64_decode.specs.declared.operand.Extend.{Extend}
-use Rattle.a64_decode.specs.declared.operand.Extend.TheVariants.{Uxtb, Uxth, Uxtw, Uxtx, Sxtb, Sxth, Sxtw, Sxtx}
-use Rattle.a64_decode.specs.declared.operand.LogicalKind.{LogicalKind}
-use Rattle.a64_decode.specs.declared.operand.LogicalKind.TheVariants.{And, Orr, Eor, Ands}
-use Rattle.a64_decode.specs.declared.operand.MoveKind.{MoveKind}
-use Rattle.a64_decode.specs.declared.operand.MoveKind.TheVariants.{Movn, Movz, Movk}
-use Rattle.a64_decode.specs.declared.operand.BitfieldKind.{BitfieldKind}
-use Rattle.a64_decode.specs.declared.operand.BitfieldKind.TheVariants.{Sbfm, Bfm, Ubfm}
-use Rattle.a64_decode.specs.declared.operand.BranchKind.{BranchKind}
-use Rattle.a64_decode.specs.declared.operand.BranchKind.TheVariants.{Br, Blr, Ret}
-use Rattle.a64_decode.specs.declared.operand.ExceptionKind.{ExceptionKind}
-use Rattle.a64_decode.specs.declared.operand.ExceptionKind.TheVariants.{Svc, Hvc, Smc, Brk}
-use Rattle.a64_decode.specs.declared.operand.BarrierKind.{BarrierKind}
-use Rattle.a64_decode.specs.declared.operand.BarrierKind.TheVariants.{Clrex, Dsb, Dmb, Isb}
-use Rattle.a64_decode.specs.declared.operand.PstateField.{PstateField}
-use Rattle.a64_decode.specs.declared.operand.PstateField.TheVariants.{SpSel, DaifSet, DaifClr}
-use Rattle.a64_decode.specs.declared.operand.SelectKind.{SelectKind}
-use Rattle.a64_decode.specs.declared.operand.SelectKind.TheVariants.{Csel, Csinc, Csinv, Csneg}
-use Rattle.a64_decode.specs.declared.operand.ProductKind.{ProductKind}
-use Rattle.a64_decode.specs.declared.operand.ProductKind.TheVariants.{Madd, Msub, Smaddl, Smsubl, Smulh, Umaddl, Umsubl, Umulh}
-use Rattle.a64_decode.specs.declared.operand.TwoSourceKind.{TwoSourceKind}
-use Rattle.a64_decode.specs.declared.operand.TwoSourceKind.TheVariants.{Udiv, Sdiv, Lslv, Lsrv, Asrv, Rorv}
-use Rattle.a64_decode.specs.declared.operand.OneSourceKind.{OneSourceKind}
-use Rattle.a64_decode.specs.declared.operand.OneSourceKind.TheVariants.{Rbit, Rev16, Rev32, Rev64, Clz, Cls}
-use Rattle.a64_decode.specs.declared.operand.IndexMode.{IndexMode}
-use Rattle.a64_decode.specs.declared.operand.IndexMode.TheVariants.{Post, Offset, Pre}
-use Rattle.a64_decode.specs.declared.operand.Transfer.{Transfer}
-use Rattle.a64_decode.specs.declared.operand.Transfer.TheVariants.{Store, Load, LoadSigned, LoadSignedWord}
-use Rattle.a64_decode.specs.declared.operand.Operand.{Operand}
-use Rattle.a64_decode.specs.declared.operand.Operand.TheVariants as operand
-use Rattle.a64_decode.specs.declared.operand.LiteralKind.{LiteralKind}
-use Rattle.a64_decode.specs.declared.operand.LiteralKind.TheVariants as literal
-use Rattle.a64_decode.specs.declared.operand.PairKind.{PairKind}
-use Rattle.a64_decode.specs.declared.operand.PairKind.TheVariants as pair
-use Rattle.a64_decode.specs.declared.operand.Size.{Size}
-use Rattle.a64_decode.specs.declared.operand.Size.TheVariants as size
 use Rattle.a64_decode.specs.Operands.{flag, condition_of, shift_of, extend_of, logical_of, move_of, bitfield_of, branch_of, exception_of, barrier_of, pstate_field_of, operand_of, select_of, product_of, two_source_of, one_source_of, literal_of, pair_of, mode_of, index_of, size_of, transfer_of}
+use Rattle.a64_decode.specs.Codes.{bit, size_bit, condition_number, shift_number, extend_number, logical_number, move_number, bitfield_number, branch_number, barrier_number, two_source_number, one_source_number, literal_number, pair_number, mode_number, index_number, size_number, transfer_number, select_op, select_o2, product_op31, product_o0, exception_brk, exception_ll, pstate_op1, pstate_op2, operand_i, operand_bits, unsigned_of}
 use Rattle.a64_decode.proofs.Words.{both}
 
 -- a test that holds of every number below `count`
@@ -61,39 +22,13 @@ at_below (suc count) test all number below =
       | inr other ↦ at_below count test parts.1 number (omega (arith, other.1))
     ]
 
-pub bit : Bool → ℕ
-bit false = 0
-bit true = 1
-
 pub bit-flag : (number : ℕ) → number < 2 → bit (flag number) ≡ number
 unfolding bit
 bit-flag number below = eqb-true _ _ (at_below 2 (λ n. eqb (bit (flag n)) n) refl number below)
 
--- N, where it is sf once more
-pub size_bit : Bool → ℕ
-size_bit wide = bit wide
-
 pub size_bit-flag : (n sf : ℕ) → sf < 2 → n ≡ sf → size_bit (flag sf) ≡ n
 unfolding size_bit
 size_bit-flag n sf below same = bit-flag sf below ∙ sym same
-
-pub condition_number : Condition → ℕ
-condition_number condition.Eq = 0
-condition_number condition.Ne = 1
-condition_number condition.Cs = 2
-condition_number condition.Cc = 3
-condition_number condition.Mi = 4
-condition_number condition.Pl = 5
-condition_number condition.Vs = 6
-condition_number condition.Vc = 7
-condition_number condition.Hi = 8
-condition_number condition.Ls = 9
-condition_number condition.Ge = 10
-condition_number condition.Lt = 11
-condition_number condition.Gt = 12
-condition_number condition.Le = 13
-condition_number condition.Al = 14
-condition_number condition.Nv = 15
 
 pub condition-number : (number : ℕ) → number < 16 → condition_number (condition_of number) ≡ number
 unfolding condition_number
@@ -104,220 +39,74 @@ when_not : (a b : Bool) → (a || b) ≡ true → a ≡ false → b ≡ true
 when_not false b h none = h
 when_not true b h none = absurd (cc)
 
-pub shift_number : Shift → ℕ
-shift_number Lsl = 0
-shift_number Lsr = 1
-shift_number Asr = 2
-shift_number Ror = 3
-
 pub shift-number : (number : ℕ) → number < 4 → shift_number (shift_of number) ≡ number
 unfolding shift_number
 shift-number number below = eqb-true _ _ (at_below 4 (λ n. eqb (shift_number (shift_of n)) n) refl number below)
-
-pub extend_number : Extend → ℕ
-extend_number Uxtb = 0
-extend_number Uxth = 1
-extend_number Uxtw = 2
-extend_number Uxtx = 3
-extend_number Sxtb = 4
-extend_number Sxth = 5
-extend_number Sxtw = 6
-extend_number Sxtx = 7
 
 pub extend-number : (number : ℕ) → number < 8 → extend_number (extend_of number) ≡ number
 unfolding extend_number
 extend-number number below = eqb-true _ _ (at_below 8 (λ n. eqb (extend_number (extend_of n)) n) refl number below)
 
-pub logical_number : LogicalKind → ℕ
-logical_number And = 0
-logical_number Orr = 1
-logical_number Eor = 2
-logical_number Ands = 3
-
 pub logical-number : (number : ℕ) → number < 4 → logical_number (logical_of number) ≡ number
 unfolding logical_number
 logical-number number below = eqb-true _ _ (at_below 4 (λ n. eqb (logical_number (logical_of n)) n) refl number below)
-
-pub move_number : MoveKind → ℕ
-move_number Movn = 0
-move_number Movz = 2
-move_number Movk = 3
 
 pub move-number : (number : ℕ) → number < 4 → (eqb number 1) ≡ false → move_number (move_of number) ≡ number
 unfolding move_number
 move-number number below lawful =
     eqb-true _ _ (when_not _ _ (at_below 4 (λ n. eqb n 1 || eqb (move_number (move_of n)) n) refl number below) lawful)
 
-pub bitfield_number : BitfieldKind → ℕ
-bitfield_number Sbfm = 0
-bitfield_number Bfm = 1
-bitfield_number Ubfm = 2
-
 pub bitfield-number : (number : ℕ) → number < 4 → (eqb number 3) ≡ false → bitfield_number (bitfield_of number) ≡ number
 unfolding bitfield_number
 bitfield-number number below lawful =
     eqb-true _ _ (when_not _ _ (at_below 4 (λ n. eqb n 3 || eqb (bitfield_number (bitfield_of n)) n) refl number below) lawful)
-
-pub branch_number : BranchKind → ℕ
-branch_number Br = 0
-branch_number Blr = 1
-branch_number Ret = 2
 
 pub branch-number : (number : ℕ) → number < 4 → (eqb number 3) ≡ false → branch_number (branch_of number) ≡ number
 unfolding branch_number
 branch-number number below lawful =
     eqb-true _ _ (when_not _ _ (at_below 4 (λ n. eqb n 3 || eqb (branch_number (branch_of n)) n) refl number below) lawful)
 
-pub barrier_number : BarrierKind → ℕ
-barrier_number Clrex = 2
-barrier_number Dsb = 4
-barrier_number Dmb = 5
-barrier_number Isb = 6
-
 pub barrier-number : (number : ℕ) → number < 8 → (not (eqb number 2 || eqb number 4 || eqb number 5 || eqb number 6)) ≡ false → barrier_number (barrier_of number) ≡ number
 unfolding barrier_number
 barrier-number number below lawful =
     eqb-true _ _ (when_not _ _ (at_below 8 (λ n. not (eqb n 2 || eqb n 4 || eqb n 5 || eqb n 6) || eqb (barrier_number (barrier_of n)) n) refl number below) lawful)
-
-pub two_source_number : TwoSourceKind → ℕ
-two_source_number Udiv = 2
-two_source_number Sdiv = 3
-two_source_number Lslv = 8
-two_source_number Lsrv = 9
-two_source_number Asrv = 10
-two_source_number Rorv = 11
 
 pub two_source-number : (number : ℕ) → number < 64 → (ltb number 2 || (ltb 3 number && ltb number 8) || ltb 11 number) ≡ false → two_source_number (two_source_of number) ≡ number
 unfolding two_source_number
 two_source-number number below lawful =
     eqb-true _ _ (when_not _ _ (at_below 64 (λ n. ltb n 2 || (ltb 3 n && ltb n 8) || ltb 11 n || eqb (two_source_number (two_source_of n)) n) refl number below) lawful)
 
-pub one_source_number : OneSourceKind → ℕ
-one_source_number Rbit = 0
-one_source_number Rev16 = 1
-one_source_number Rev32 = 2
-one_source_number Rev64 = 3
-one_source_number Clz = 4
-one_source_number Cls = 5
-
 pub one_source-number : (number : ℕ) → number < 64 → (ltb 5 number) ≡ false → one_source_number (one_source_of number) ≡ number
 unfolding one_source_number
 one_source-number number below lawful =
     eqb-true _ _ (when_not _ _ (at_below 64 (λ n. ltb 5 n || eqb (one_source_number (one_source_of n)) n) refl number below) lawful)
 
-pub literal_number : LiteralKind → ℕ
-literal_number literal.Word = 0
-literal_number literal.Double = 1
-literal_number literal.SignedWord = 2
-literal_number literal.Prefetch = 3
-
 pub literal-number : (number : ℕ) → number < 4 → literal_number (literal_of number) ≡ number
 unfolding literal_number
 literal-number number below = eqb-true _ _ (at_below 4 (λ n. eqb (literal_number (literal_of n)) n) refl number below)
-
-pub pair_number : PairKind → ℕ
-pair_number pair.Word = 0
-pair_number pair.SignedWord = 1
-pair_number pair.Double = 2
 
 pub pair-number : (number : ℕ) → number < 4 → (eqb number 3) ≡ false → pair_number (pair_of number) ≡ number
 unfolding pair_number
 pair-number number below lawful =
     eqb-true _ _ (when_not _ _ (at_below 4 (λ n. eqb n 3 || eqb (pair_number (pair_of n)) n) refl number below) lawful)
 
-pub mode_number : IndexMode → ℕ
-mode_number Post = 1
-mode_number Offset = 2
-mode_number Pre = 3
-
 pub mode-number : (number : ℕ) → number < 8 → (not (eqb number 1 || eqb number 2 || eqb number 3)) ≡ false → mode_number (mode_of number) ≡ number
 unfolding mode_number
 mode-number number below lawful =
     eqb-true _ _ (when_not _ _ (at_below 8 (λ n. not (eqb n 1 || eqb n 2 || eqb n 3) || eqb (mode_number (mode_of n)) n) refl number below) lawful)
-
-pub index_number : IndexMode → ℕ
-index_number Offset = 0
-index_number Post = 1
-index_number Pre = 3
 
 pub index-number : (number : ℕ) → number < 4 → (eqb number 2) ≡ false → index_number (index_of number) ≡ number
 unfolding index_number
 index-number number below lawful =
     eqb-true _ _ (when_not _ _ (at_below 4 (λ n. eqb n 2 || eqb (index_number (index_of n)) n) refl number below) lawful)
 
-pub size_number : Size → ℕ
-size_number size.Byte = 0
-size_number size.Half = 1
-size_number size.Word = 2
-size_number size.Double = 3
-
 pub size-number : (number : ℕ) → number < 4 → size_number (size_of number) ≡ number
 unfolding size_number
 size-number number below = eqb-true _ _ (at_below 4 (λ n. eqb (size_number (size_of n)) n) refl number below)
 
-pub transfer_number : Transfer → ℕ
-transfer_number Store = 0
-transfer_number Load = 1
-transfer_number LoadSigned = 2
-transfer_number LoadSignedWord = 3
-
 pub transfer-number : (number : ℕ) → number < 4 → transfer_number (transfer_of number) ≡ number
 unfolding transfer_number
 transfer-number number below = eqb-true _ _ (at_below 4 (λ n. eqb (transfer_number (transfer_of n)) n) refl number below)
-
-pub select_op : SelectKind → ℕ
-select_op Csel = 0
-select_op Csinc = 0
-select_op Csinv = 1
-select_op Csneg = 1
-
-pub select_o2 : SelectKind → ℕ
-select_o2 Csel = 0
-select_o2 Csinc = 1
-select_o2 Csinv = 0
-select_o2 Csneg = 1
-
-pub product_op31 : ProductKind → ℕ
-product_op31 Madd = 0
-product_op31 Msub = 0
-product_op31 Smaddl = 1
-product_op31 Smsubl = 1
-product_op31 Smulh = 2
-product_op31 Umaddl = 5
-product_op31 Umsubl = 5
-product_op31 Umulh = 6
-
-pub product_o0 : ProductKind → ℕ
-product_o0 Madd = 0
-product_o0 Msub = 1
-product_o0 Smaddl = 0
-product_o0 Smsubl = 1
-product_o0 Smulh = 0
-product_o0 Umaddl = 0
-product_o0 Umsubl = 1
-product_o0 Umulh = 0
-
-pub exception_brk : ExceptionKind → ℕ
-exception_brk Svc = 0
-exception_brk Hvc = 0
-exception_brk Smc = 0
-exception_brk Brk = 1
-
-pub exception_ll : ExceptionKind → ℕ
-exception_ll Svc = 1
-exception_ll Hvc = 2
-exception_ll Smc = 3
-exception_ll Brk = 0
-
-pub pstate_op1 : PstateField → ℕ
-pstate_op1 SpSel = 0
-pstate_op1 DaifSet = 3
-pstate_op1 DaifClr = 3
-
-pub pstate_op2 : PstateField → ℕ
-pstate_op2 SpSel = 5
-pstate_op2 DaifSet = 6
-pstate_op2 DaifClr = 7
 
 pub select-op : (op o2 : ℕ) → op < 2 → o2 < 2 → select_op (select_of op o2) ≡ op
 unfolding select_op
@@ -373,14 +162,6 @@ product-o0 sf op31 o0 sf_below op31_below o0_below lawful =
     o0 o0_below)
     lawful)
 
-pub operand_i : Operand → ℕ
-operand_i (operand.Register r) = 0
-operand_i (operand.Immediate number) = 1
-
-pub operand_bits : Operand → ℕ
-operand_bits (operand.Register r) = r.0
-operand_bits (operand.Immediate number) = number
-
 pub operand-i : (i bits : ℕ) → i < 2 → operand_i (operand_of i bits) ≡ i
 unfolding operand_i
 operand-i i bits below = eqb-true _ _ (at_below 2 (λ n. eqb (operand_i (operand_of n bits)) n) refl i below)
@@ -390,10 +171,7 @@ unfolding operand_bits
 operand-bits i bits below =
     elim (eqb_tells i 1) [ inl same ↦ rw same.0 refl | inr other ↦ rw other.0 refl ]
 
--- the bits of a number that was sign-extended; `half` is the weight of its sign, and `count` says how often all its bits go into 64
-pub unsigned_of : ℕ → ℕ → ℕ
-unsigned_of half offset = offset % (2 * half)
-
+-- `half` is the weight of the sign, and `count` says how often all bits of the number go into 64
 pub unsigned-sign_extend : (half count value : ℕ) → 0 < half → value < 2 * half
     → unsigned_of half (if ltb value half then value else value + count * (2 * half)) ≡ value
 unfolding unsigned_of

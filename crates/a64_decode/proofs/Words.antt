@@ -6,13 +6,7 @@ use Rattle.std.proofs.Math.Nat.{mod-lt, mod-eq_of_lt, mod-one}
 use Rattle.bao_types.specs.Bits.{field}
 use Rattle.a64_decode.specs.Pattern.{Part, matches, free_fields}
 use Rattle.a64_decode.specs.Pattern.Part.{Fixed, Free}
-
--- the number that these parts are, below bit `top`, with these values of the free fields
-abbrev pub join : ℕ → List Part → List ℕ → ℕ
-join top [] fields = 0
-join top (Fixed width value ∷ parts) fields = value * 2 ^ (top - width) + join (top - width) parts fields
-join top (Free width ∷ parts) [] = 0
-join top (Free width ∷ parts) (value ∷ fields) = value * 2 ^ (top - width) + join (top - width) parts fields
+use Rattle.a64_decode.specs.Word.{join}
 
 -- the parts have `top` bits, and each has one at least
 abbrev pub fills : ℕ → List Part → Bool

@@ -12,6 +12,7 @@ use crate::{BranchKind, Instr, system};
 use bao_types::field;
 
 /// The table from the branches on.
+#[inline(always)]
 pub(crate) fn decode_branch(word: u32) -> Instr
     ensures row { result ≡ first_reading branch_rows word }
     ensures lawful { IsLawful result }

@@ -12,6 +12,7 @@ use crate::{Extend, IndexMode, Instr, LiteralKind, PairKind, Reg, Size, Transfer
 use bao_types::field;
 
 /// The table from the loads of a literal on.
+#[inline(always)]
 pub(crate) fn decode_load_store(word: u32) -> Instr
     ensures row { result ≡ first_reading load_store_rows word }
     ensures lawful { IsLawful result }

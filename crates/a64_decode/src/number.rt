@@ -17,7 +17,7 @@ pub fn width(wide: bool) -> u32
 }
 
 /// The lowest bits of a number.
-#[inline]
+#[inline(always)]
 pub fn low(value: u64, count: u32) -> u64
     requires { count ≤ 64 }
     ensures value { result ≡ value % 2 ^ count }

@@ -11,6 +11,7 @@ use crate::{Instr, Shift, source};
 use bao_types::field;
 
 /// The table from the shifted registers on.
+#[inline(always)]
 pub(crate) fn decode_register(word: u32) -> Instr
     ensures row { result ≡ first_reading register_rows word }
     ensures lawful { IsLawful result }

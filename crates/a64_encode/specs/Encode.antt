@@ -1,0 +1,14 @@
+-- What it is to encode an instruction, by the decoder's table alone.
+use Rattle.std.specs.Prelude.{◌≡◌, ◌≢◌, ◌^◌, ◌<◌, ℕ, Option, Some, None}
+use Rattle.a64_decode.specs.declared.instr.Instr.{Instr}
+use Rattle.a64_decode.specs.declared.instr.Instr.TheVariants.{Undefined}
+use Rattle.a64_decode.specs.Table.{decoded}
+
+-- a word that decodes to the instruction, which isn't the one that all other words are
+abbrev pub IsWordOf : Instr → ℕ → Type 0
+IsWordOf instr word = (word < 2 ^ 32) × (decoded word ≡ instr) × (instr ≢ Undefined)
+
+-- the answer is a word of the instruction, and None only where it has none
+abbrev pub Encodes : Instr → Option ℕ → Type 0
+Encodes instr (Some word) = IsWordOf instr word
+Encodes instr None = (word : ℕ) → ¬ IsWordOf instr word
