@@ -90,6 +90,7 @@ impl Banks {
     }
 
     /// The `width` bytes from `at` on, as a number whose least byte comes first. Addresses wrap at 2^64.
+    #[inline(always)]
     pub fn read_le(&self, at: u64, width: u32) -> u64
         requires { IsWidth width }
         ensures value { result ≡ little_endian (bytes_from (byte_at self.now) at width) }
@@ -104,6 +105,7 @@ impl Banks {
     }
 
     /// Puts the lowest `width` bytes of the value at `at`, the least byte first. All these bytes have pages.
+    #[inline(always)]
     pub fn write_le(&mut self, at: u64, width: u32, value: u64)
         requires width { IsWidth width }
         requires kept { (k : ℕ) → k < width → IsTrue (is_kept self.old (at + k)) }
@@ -120,6 +122,7 @@ impl Banks {
     }
 
     /// A number that lies in one page of a bank.
+    #[inline(always)]
     fn read_within(&self, _at: u64, spot: Spot, width: u32) -> u64
         requires width { IsWidth width }
         requires spot { spot_of self.now.places _at ≡ Some spot }
@@ -134,6 +137,7 @@ impl Banks {
     }
 
     /// A number, byte by byte.
+    #[inline(never)]
     fn read_across(&self, at: u64, width: u32) -> u64
         requires { IsWidth width }
         ensures value { result ≡ little_endian (bytes_from (byte_at self.now) at width) }
@@ -147,6 +151,7 @@ impl Banks {
     }
 
     /// Writes a number that lies in one page of a bank.
+    #[inline(always)]
     fn write_within(&mut self, _at: u64, spot: Spot, width: u32, value: u64)
         requires width { IsWidth width }
         requires spot { spot_of self.old.places _at ≡ Some spot }
@@ -158,6 +163,7 @@ impl Banks {
     }
 
     /// Writes a number byte by byte.
+    #[inline(never)]
     fn write_across(&mut self, at: u64, width: u32, value: u64)
         requires width { IsWidth width }
         requires kept { (k : ℕ) → k < width → IsTrue (is_kept self.old (at + k)) }

@@ -90,6 +90,7 @@ impl Directory {
     }
 
     /// The page at a place, if there is one.
+    #[inline(always)]
     pub(crate) fn get(&self, entry: usize) -> Option<&Phys>
         requires { entry < length self.now }
         ensures { MatchOption result (page_at self.now entry ≡ None) (λ page. page_at self.now entry ≡ Some page.now) }
@@ -108,6 +109,7 @@ impl Directory {
     }
 
     /// Puts the lowest `width` bytes of the value into the page at a place, the least byte first, from its byte `at` on.
+    #[inline(always)]
     pub(crate) fn write(&mut self, entry: usize, at: u64, width: u32, value: u64)
         requires width { IsWidth width }
         requires entry { entry < length self.old }

@@ -42,6 +42,7 @@ impl BankPlace {
     }
 
     /// Where a byte of the bank lies.
+    #[inline(always)]
     fn spot(&self, at: u64) -> Spot
         requires { is_within self.now.range at ≡ true }
         ensures { result ≡ spot_in self.now at }
@@ -57,6 +58,7 @@ impl BankPlace {
 }
 
 /// Where the byte at an address lies, if a bank has it.
+#[inline(always)]
 pub(crate) fn find(places: &[BankPlace], at: u64) -> Option<Spot>
     ensures { result ≡ spot_of places.now at }
 {

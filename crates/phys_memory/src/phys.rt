@@ -88,7 +88,25 @@ impl Phys {
     }
 
     /// The `width` bytes from `at` on, as a number whose least byte comes first.
+    #[inline(always)]
     pub fn read_le(&self, at: u64, width: u32) -> u64
+        requires width { IsWidth width }
+        requires range { at + width ≤ length self.now }
+        ensures value { result ≡ little_endian (slice_range self.now at (at + width)) }
+        ensures bound { result < 256 ^ width }
+    {
+        // With a width that is known, the loop becomes a load or a few.
+        match width {
+            1 => self.number(at, 1),
+            2 => self.number(at, 2),
+            4 => self.number(at, 4),
+            _ => self.number(at, 8),
+        }
+    }
+
+    /// The same number, byte by byte.
+    #[inline(always)]
+    fn number(&self, at: u64, width: u32) -> u64
         requires width { IsWidth width }
         requires range { at + width ≤ length self.now }
         ensures value { result ≡ little_endian (slice_range self.now at (at + width)) }
@@ -104,7 +122,23 @@ impl Phys {
     }
 
     /// Puts the lowest `width` bytes of the value at `at`, the least byte first. All other bytes stay.
+    #[inline(always)]
     pub fn write_le(&mut self, at: u64, width: u32, value: u64)
+        requires width { IsWidth width }
+        requires range { at + width ≤ length self.old }
+        ensures { self.new ≡ take at self.old ++ low_bytes width value ++ drop (at + width) self.old }
+    {
+        match width {
+            1 => self.put_number(at, 1, value),
+            2 => self.put_number(at, 2, value),
+            4 => self.put_number(at, 4, value),
+            _ => self.put_number(at, 8, value),
+        }
+    }
+
+    /// Puts the same bytes one by one.
+    #[inline(always)]
+    fn put_number(&mut self, at: u64, width: u32, value: u64)
         requires width { IsWidth width }
         requires range { at + width ≤ length self.old }
         ensures { self.new ≡ take at self.old ++ low_bytes width value ++ drop (at + width) self.old }

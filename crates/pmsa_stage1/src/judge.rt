@@ -36,8 +36,8 @@ pub fn judge1(regs: &RegionFile, sctlr: u64, level: u8, access: Access, at: u64)
     }
 }
 
-/// SCTLR_EL1.M: whether the first stage is on.
-fn is_on(sctlr: u64) -> bool
+/// SCTLR_EL1.M: whether the first stage is on. Where it isn't, it allows all.
+pub fn is_on(sctlr: u64) -> bool
     ensures { result ≡ is_on sctlr }
 {
     sctlr % 2 == 1

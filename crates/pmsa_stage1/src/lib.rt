@@ -3,7 +3,7 @@
 //! Whole accesses, their alignment and the second stage are judged by the layers above.
 #![tactic(auto)]
 
-pub use judge::judge1;
+pub use judge::{is_on, judge1};
 
 mod judge;
 #[cfg(test)]

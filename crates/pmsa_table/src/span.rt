@@ -52,6 +52,7 @@ impl Span {
     }
 
     /// Whether the byte at `at` is one of the span's.
+    #[inline(always)]
     pub fn has(&self, at: u64) -> bool
         ensures { result ≡ has self.now at }
     {
@@ -59,6 +60,7 @@ impl Span {
     }
 
     /// What the span says of an access.
+    #[inline(always)]
     pub fn verdict(&self, access: Access) -> Verdict
         ensures { result ≡ span_verdict self.now access }
     {

@@ -93,6 +93,7 @@ impl Table {
 
     /// The first byte of `count` bytes from `at` on that is refused, in address order; None where all are allowed.
     /// Addresses wrap at 2^64.
+    #[inline(always)]
     pub fn judge_all(&mut self, access: Access, at: u64, count: u8) -> Option<Refusal>
         ensures refusal { result ≡ first_refusal (stage2 self.old access) at count }
         ensures entries { self.new ≡ self.old }
@@ -107,6 +108,7 @@ impl Table {
 
 impl Table {
     /// Judges the bytes one by one.
+    #[inline(never)]
     fn judge_each(&mut self, access: Access, at: u64, count: u8) -> Option<Refusal>
         ensures refusal { result ≡ first_refusal (stage2 self.old access) at count }
         ensures entries { self.new ≡ self.old }
@@ -122,6 +124,7 @@ impl Table {
     }
 
     /// The span that has the byte at `at`, which is remembered as the access's last hit.
+    #[inline(always)]
     fn span(&mut self, access: Access, at: u64) -> Span
         ensures right { IsSpan self.old result }
         ensures first { result.first ≤ at }
@@ -138,6 +141,7 @@ impl Table {
     }
 
     /// The span of the access's last hit.
+    #[inline(always)]
     fn hit(&self, access: Access) -> Span
         ensures { IsSpan self.now result }
     {
@@ -159,6 +163,7 @@ impl Table {
         }
     }
 
+    #[inline(never)]
     fn find(&self, at: u64) -> Span
         ensures right { IsSpan self.now result }
         ensures first { result.first ≤ at }
@@ -184,6 +189,7 @@ fn is_refused(verdict: Verdict) -> bool
 
 /// The first refused one of `count` bytes from `at` on that all have this verdict.
 #[tactic(auto, using(crate::proofs::Refusals::all_allowed))]
+#[inline(always)]
 fn refusal_at(verdict: Verdict, at: u64, count: u8) -> Option<Refusal>
     ensures { result ≡ first_refusal (λ byte. verdict) at count }
 {

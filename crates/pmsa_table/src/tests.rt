@@ -112,21 +112,74 @@ static ACCESSES: [(&str, Access, u64, u8, Option<(u64, Verdict)>); 10] = [
 fn check_access(
     rt: &impl Abort,
     shows: &str,
+    entries: &[Region],
     access: Access,
     at: u64,
     count: u8,
     refused: Option<(u64, Verdict)>,
 ) {
-    let mut table = table_of(&[MEMORY, INNER, NEXT]);
+    let mut table = table_of(entries);
     let wanted = refused.map(|(at, verdict)| Refusal { at, verdict });
     assert_eq!(rt; table.judge_all(access, at, count), wanted, "{shows}");
 }
 
 #[test]
 fn whole_accesses(rt: HostRuntime) {
+    let entries = [MEMORY, INNER, NEXT];
     for (shows, access, at, count, refused) in ACCESSES.as_slice() {
-        check_access(&rt, shows, *access, *at, *count, *refused);
+        check_access(&rt, shows, &entries, *access, *at, *count, *refused);
     }
+}
+
+/// Three entries of 64 bytes, each right behind the one before it; the last one is for reading alone.
+const THREE: [Region; 3] = [
+    Region {
+        base: 0x20_0004,
+        limit: 0x20_0001,
+    },
+    Region {
+        base: 0x20_0044,
+        limit: 0x20_0041,
+    },
+    Region {
+        base: 0x20_008e,
+        limit: 0x20_0081,
+    },
+];
+
+#[rattlefmt::skip]
+static OVER_THREE: [(&str, Access, u64, u8, Option<(u64, Verdict)>); 4] = [
+    // shows                       access         from       bytes refused
+    ("over all three",             Access::Read,  0x20_003f, 66,   None),
+    ("the third one refuses",      Access::Write, 0x20_003f, 66,   Some((0x20_0080, P))),
+    ("up to behind the third",     Access::Read,  0x20_003f, 130,  Some((0x20_00c0, T))),
+    ("all of them, and around",    Access::Read,  0x1f_ffff, 200,  Some((0x1f_ffff, T))),
+];
+
+#[test]
+fn an_access_over_three_entries(rt: HostRuntime) {
+    for (shows, access, at, count, refused) in OVER_THREE.as_slice() {
+        check_access(&rt, shows, &THREE, *access, *at, *count, *refused);
+    }
+}
+
+/// Each of the 32 has every other granule of 64 bytes from 0x400000 on.
+#[test]
+fn thirty_two_entries(rt: HostRuntime) {
+    let mut entries = [OFF; 32];
+    for i in 0..32usize {
+        let from = 0x40_0000 + 0x80 * i as u64;
+        entries[i] = Region {
+            base: from + 4,
+            limit: from + 1,
+        };
+    }
+    let mut table = table_of(&entries);
+    let first = table.judge(Access::Read, 0x40_003f);
+    let between = table.judge(Access::Read, 0x40_0040);
+    let last = table.judge(Access::Write, 0x40_0f80);
+    let behind = table.judge(Access::Write, 0x40_0fc0);
+    assert_eq!(rt; [first, between, last, behind], [OK, T, OK, T]);
 }
 
 #[test]

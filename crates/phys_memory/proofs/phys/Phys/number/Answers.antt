@@ -1,6 +1,6 @@
 use Rattle.std.proofs.Common.{◌+◌, ◌-◌, ◌*◌, refl, ap, ◌∙◌, arith}
 use Rattle.phys_memory.proofs.Numbers.{little_endian-more, below-more, below-word}
-use Rattle.phys_memory.proofs.phys.Phys.read_le.Goals as goal
+use Rattle.phys_memory.proofs.phys.Phys.number.Goals as goal
 
 pub overflow_mul-value : goal.overflow_mul-value
 overflow_mul-value c =

@@ -1,7 +1,7 @@
 use Rattle.std.proofs.Common.{◌+◌, ◌/◌, ◌%◌, [], ◌∷◌, ◌++◌, length, refl, sym, ap, ◌∙◌, arith, length-set}
 use Rattle.bao_types.specs.Bytes.{low_bytes}
 use Rattle.phys_memory.proofs.Numbers.{low_bytes-more, shifted-more, length-low_bytes, put_more}
-use Rattle.phys_memory.proofs.phys.Phys.write_le.Goals as goal
+use Rattle.phys_memory.proofs.phys.Phys.put_number.Goals as goal
 
 pub loop-k-preserved : goal.loop-k-preserved
 loop-k-preserved c =
