@@ -1,4 +1,6 @@
 pub mod Want
 pub mod Branch
+pub mod System
+pub mod Execute
 pub mod Transfer
 pub mod Finish

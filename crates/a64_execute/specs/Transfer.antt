@@ -6,7 +6,7 @@ use Rattle.a64_decode.specs.Lawful.{is_signed_pair}
 use Rattle.a64_decode.specs.Operands.{loaded}
 use Rattle.a64_decode.specs.Access.{is_store, is_signed_load, is_long_load, is_wide_pair, is_signed_literal, is_wide_literal}
 use Rattle.a64_decode.specs.declared.instr.Instr.{Instr}
-use Rattle.a64_decode.specs.declared.instr.Instr.TheVariants.{LoadLiteral, Pair, LoadStoreUnsigned, LoadStoreIndexed, LoadStoreRegister}
+use Rattle.a64_decode.specs.declared.instr.Instr.TheVariants.{Address, AddSubImmediate, LogicalImmediate, MoveWide, Bitfield, Extract, Branch, BranchConditional, CompareBranch, TestBranch, BranchRegister, ExceptionReturn, Exception, Hint, Barrier, MsrImmediate, System, SystemRegister, LogicalShifted, AddSubShifted, AddSubExtended, AddSubCarry, ConditionalCompare, ConditionalSelect, ThreeSources, TwoSources, OneSource, LoadLiteral, Pair, LoadStoreUnsigned, LoadStoreIndexed, LoadStoreRegister, Undefined}
 use Rattle.a64_decode.specs.declared.operand.Reg.{Reg}
 use Rattle.a64_decode.specs.declared.operand.PairKind.{PairKind}
 use Rattle.a64_decode.specs.declared.operand.Transfer.{Transfer}
@@ -38,7 +38,7 @@ with_back None rn core = core
 with_back (Some base) rn core = with_x_or_sp core rn.0 base
 
 -- the core after a load or a store of this shape, but for the step of PC; `got` is what was loaded, its bytes in address
--- order as one little-endian number. No other row has a shape
+-- order as one little-endian number
 unfoldable pub transferred : Instr → MemShape → ℕ → CoreData → CoreData
 transferred (LoadLiteral kind offset rt) shape got core =
     let bits : ℕ = 8 * shape.width in
@@ -54,4 +54,32 @@ transferred (LoadStoreIndexed size transfer offset mode rn rt) shape got core =
 transferred (LoadStoreRegister size transfer rm extend scaled rn rt) shape got core =
     let bits : ℕ = 8 * shape.width in
     with_element transfer bits rt (first_element bits got) core
-transferred _ shape got core = core
+-- all other rows have no access
+transferred (Address _ _ _) shape got core = core
+transferred (AddSubImmediate _ _ _ _ _ _ _) shape got core = core
+transferred (LogicalImmediate _ _ _ _ _ _ _) shape got core = core
+transferred (MoveWide _ _ _ _ _) shape got core = core
+transferred (Bitfield _ _ _ _ _ _) shape got core = core
+transferred (Extract _ _ _ _ _) shape got core = core
+transferred (Branch _ _) shape got core = core
+transferred (BranchConditional _ _) shape got core = core
+transferred (CompareBranch _ _ _ _) shape got core = core
+transferred (TestBranch _ _ _ _) shape got core = core
+transferred (BranchRegister _ _) shape got core = core
+transferred ExceptionReturn shape got core = core
+transferred (Exception _ _) shape got core = core
+transferred (Hint _ _) shape got core = core
+transferred (Barrier _ _) shape got core = core
+transferred (MsrImmediate _ _) shape got core = core
+transferred (System _ _ _ _ _) shape got core = core
+transferred (SystemRegister _ _ _) shape got core = core
+transferred (LogicalShifted _ _ _ _ _ _ _ _) shape got core = core
+transferred (AddSubShifted _ _ _ _ _ _ _ _) shape got core = core
+transferred (AddSubExtended _ _ _ _ _ _ _ _) shape got core = core
+transferred (AddSubCarry _ _ _ _ _ _) shape got core = core
+transferred (ConditionalCompare _ _ _ _ _ _) shape got core = core
+transferred (ConditionalSelect _ _ _ _ _ _) shape got core = core
+transferred (ThreeSources _ _ _ _ _ _) shape got core = core
+transferred (TwoSources _ _ _ _ _) shape got core = core
+transferred (OneSource _ _ _ _) shape got core = core
+transferred Undefined shape got core = core

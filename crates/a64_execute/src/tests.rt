@@ -1,6 +1,6 @@
 use crate::{Need, complete, complete_access, want};
 use a64_decode::decode;
-use a64_state::Core;
+use a64_state::{Core, Mode, pstate};
 use std::process::Abort;
 
 /// A load or a store: its instruction and word, the address, the bytes of an element, the elements, what is loaded or
@@ -502,35 +502,202 @@ fn goes_on(rt: &impl Abort, row: &(&'static str, u32)) {
     step_agrees(rt, PC, &(shows, word, 5, 5, 0x4004, &[]));
 }
 
+/// An undefined instruction.
+const UNDEFINED: Need = Need::Raise {
+    esr: 0x0200_0000,
+    back: 0x4000,
+};
+
 #[rattlefmt::skip]
-static UNBUILT: [(&str, u32); 16] = [
-    // shows               word
-    ("svc #0",             0xD400_0001),
-    ("hvc #0",             0xD400_0002),
-    ("smc #0",             0xD400_0003),
-    ("brk #0",             0xD420_0000),
-    ("eret",               0xD69F_03E0),
-    ("msr spsel, #1",      0xD500_41BF),
-    ("msr daifset, #2",    0xD503_42DF),
-    ("msr daifclr, #2",    0xD503_42FF),
-    ("dc civac, x1",       0xD50B_7E21),
-    ("ic iallu",           0xD508_751F),
-    ("msr sctlr_el1, x0",  0xD518_1000),
-    ("mrs x0, nzcv",       0xD53B_4200),
-    ("ldxr x0, [x1]",      0xC85F_7C20),
-    ("ldadd w0, w1, [x2]", 0xB820_0041),
-    ("udf #0",             0x0000_0000),
-    ("udf #65535",         0x0000_FFFF),
+const SVC_5: Need = Need::Raise { esr: 0x5600_0005, back: 0x4004 };
+
+#[rattlefmt::skip]
+const BRK_0: Need = Need::Raise { esr: 0xF200_0000, back: 0x4000 };
+
+#[rattlefmt::skip]
+const BRK_65535: Need = Need::Raise { esr: 0xF200_FFFF, back: 0x4000 };
+
+#[rattlefmt::skip]
+const HVC_0: Need = Need::Leave { esr: 0x5A00_0000, behind: true };
+
+#[rattlefmt::skip]
+const HVC_1: Need = Need::Leave { esr: 0x5A00_0001, behind: true };
+
+#[rattlefmt::skip]
+const SMC_0: Need = Need::Leave { esr: 0x5E00_0000, behind: false };
+
+#[rattlefmt::skip]
+const SMC_65535: Need = Need::Leave { esr: 0x5E00_FFFF, behind: false };
+
+/// What an instruction asks at EL1 with its own SP, and at EL0.
+type Asks = (&'static str, u32, Need, Need);
+
+#[rattlefmt::skip]
+static CALLS: [Asks; 8] = [
+    // shows       word         at EL1     at EL0
+    ("svc #5",     0xD400_00A1, SVC_5,     SVC_5),
+    ("brk #0",     0xD420_0000, BRK_0,     BRK_0),
+    ("brk #65535", 0xD43F_FFE0, BRK_65535, BRK_65535),
+    ("hvc #0",     0xD400_0002, HVC_0,     UNDEFINED),
+    ("hvc #1",     0xD400_0022, HVC_1,     UNDEFINED),
+    ("smc #0",     0xD400_0003, SMC_0,     UNDEFINED),
+    ("smc #65535", 0xD41F_FFE3, SMC_65535, UNDEFINED),
+    ("eret",       0xD69F_03E0, Need::Done, UNDEFINED),
+];
+
+#[rattlefmt::skip]
+static UNDEFINED_WORDS: [Asks; 4] = [
+    // shows               word         at EL1     at EL0
+    ("ldxr x0, [x1]",      0xC85F_7C20, UNDEFINED, UNDEFINED),
+    ("ldadd w0, w1, [x2]", 0xB820_0041, UNDEFINED, UNDEFINED),
+    ("udf #0",             0x0000_0000, UNDEFINED, UNDEFINED),
+    ("udf #65535",         0x0000_FFFF, UNDEFINED, UNDEFINED),
+];
+
+#[rattlefmt::skip]
+static REGISTERS: [Asks; 28] = [
+    // shows                  word         at EL1         at EL0
+    ("msr spsel, #1",         0xD500_41BF, Need::Done,    UNDEFINED),
+    ("msr daifset, #2",       0xD503_42DF, Need::Done,    UNDEFINED),
+    ("msr daifclr, #2",       0xD503_42FF, Need::Done,    UNDEFINED),
+    ("dc civac, x1",          0xD50B_7E21, Need::Done,    UNDEFINED),
+    ("ic iallu",              0xD508_751F, Need::Done,    UNDEFINED),
+    ("tlbi vmalle1",          0xD508_871F, Need::Done,    UNDEFINED),
+    ("mrs x0, nzcv",          0xD53B_4200, Need::Done,    Need::Done),
+    ("msr nzcv, x0",          0xD51B_4200, Need::Done,    Need::Done),
+    ("mrs x0, midr_el1",      0xD538_0000, Need::Done,    UNDEFINED),
+    ("msr midr_el1, x0",      0xD518_0000, UNDEFINED,     UNDEFINED),
+    ("msr tpidrro_el0, x0",   0xD51B_D060, Need::Done,    UNDEFINED),
+    ("mrs x0, spsel",         0xD538_4200, Need::Done,    UNDEFINED),
+    ("mrs x0, sctlr_el1",     0xD538_1000, Need::Done,    UNDEFINED),
+    ("msr sctlr_el1, x0",     0xD518_1000, Need::Done,    UNDEFINED),
+    ("mrs x0, prselr_el1",    0xD538_6220, Need::Done,    UNDEFINED),
+    ("msr prbar_el1, x0",     0xD518_6800, Need::Done,    UNDEFINED),
+    ("mrs x0, prlar_el1",     0xD538_6820, Need::Done,    UNDEFINED),
+    ("mrs x0, prbar1_el1",    0xD538_6880, UNDEFINED,     UNDEFINED),
+    ("mrs x0, icc_pmr_el1",   0xD538_4600, Need::Unbuilt, UNDEFINED),
+    ("msr icc_sgi1r_el1, x0", 0xD518_CBA0, Need::Unbuilt, UNDEFINED),
+    ("mrs x0, icc_sgi1r_el1", 0xD538_CBA0, UNDEFINED,     UNDEFINED),
+    ("mrs x0, icc_iar1_el1",  0xD538_CC00, Need::Unbuilt, UNDEFINED),
+    ("msr icc_eoir1_el1, x0", 0xD518_CC20, Need::Unbuilt, UNDEFINED),
+    ("msr cntv_ctl_el0, x0",  0xD51B_E320, Need::Unbuilt, UNDEFINED),
+    ("mrs x0, cntv_cval_el0", 0xD53B_E340, Need::Unbuilt, UNDEFINED),
+    ("mrs x0, cntvct_el0",    0xD53B_E040, Need::Done,    Need::Done),
+    ("msr cntvct_el0, x0",    0xD51B_E040, UNDEFINED,     UNDEFINED),
+    ("mrs x0, fpcr",          0xD53B_4400, UNDEFINED,     UNDEFINED),
 ];
 
 #[test]
-fn unbuilt(rt: HostRuntime) {
-    for row in UNBUILT.as_slice() {
-        is_unbuilt(&rt, row);
+fn exceptions_and_registers(rt: HostRuntime) {
+    asks_agree(&rt, CALLS.as_slice());
+    asks_agree(&rt, UNDEFINED_WORDS.as_slice());
+    asks_agree(&rt, REGISTERS.as_slice());
+}
+
+fn asks_agree(rt: &impl Abort, rows: &[Asks]) {
+    for row in rows {
+        ask_agrees(rt, row);
     }
 }
 
-fn is_unbuilt(rt: &impl Abort, row: &(&'static str, u32)) {
-    let (shows, word) = *row;
-    assert_eq!(rt; want(&before(PC), &decode(word)), Need::Unbuilt, "{shows}");
+fn ask_agrees(rt: &impl Abort, row: &Asks) {
+    let (shows, word, el1, el0) = *row;
+    let privileged = before(PC);
+    let mut user = privileged;
+    user.set_mode(Mode::El0t);
+    let instr = decode(word);
+    let asked = [want(&privileged, &instr), want(&user, &instr)];
+    assert_eq!(rt; asked, [el1, el0], "{shows}");
+}
+
+/// While SP_EL0 is the selected SP it has no name of its own; SCTLR_EL1 is there with either.
+#[test]
+fn sp_el0_while_selected(rt: HostRuntime) {
+    let mut core = before(PC);
+    core.set_mode(Mode::El1t);
+    let asked = [0xD538_4100, 0xD518_4100, 0xD538_1000].map(|word| want(&core, &decode(word)));
+    assert_eq!(rt; asked, [UNDEFINED, UNDEFINED, Need::Done]);
+}
+
+/// The count at which the rows below are executed.
+const NOW: u64 = 150;
+
+/// SP_EL0 before them.
+const SP0: u64 = 0x2000;
+
+/// An instruction, PSTATE before it, and PC, PSTATE, X0 and SP_EL0 after it.
+type Effect = (&'static str, u32, u32, [u64; 4]);
+
+#[rattlefmt::skip]
+static EFFECTS: [Effect; 18] = [
+    // shows                word         PSTATE       PC      PSTATE       X0           SP_EL0
+    ("eret to el0",         0xD69F_03E0, 0x0000_03C5, [0x9000, 0x6000_0000, X0,          SP0]),
+    ("msr spsel, #0",       0xD500_40BF, 0x0000_03C5, [0x4004, 0x0000_03C4, X0,          SP0]),
+    ("msr spsel, #1",       0xD500_41BF, 0x0000_03C4, [0x4004, 0x0000_03C5, X0,          SP0]),
+    ("msr spsel, #14",      0xD500_4EBF, 0x0000_03C5, [0x4004, 0x0000_03C4, X0,          SP0]),
+    ("msr daifset, #2",     0xD503_42DF, 0xA000_0105, [0x4004, 0xA000_0185, X0,          SP0]),
+    ("msr daifset, #15",    0xD503_4FDF, 0x0000_0004, [0x4004, 0x0000_03C4, X0,          SP0]),
+    ("msr daifset, #0",     0xD503_40DF, 0x0000_0105, [0x4004, 0x0000_0105, X0,          SP0]),
+    ("msr daifclr, #2",     0xD503_42FF, 0x0000_03C5, [0x4004, 0x0000_0345, X0,          SP0]),
+    ("msr daifclr, #8",     0xD503_48FF, 0x0000_0185, [0x4004, 0x0000_0185, X0,          SP0]),
+    ("msr daifclr, #15",    0xD503_4FFF, 0xF000_03C5, [0x4004, 0xF000_0005, X0,          SP0]),
+    ("mrs x0, sp_el0",      0xD538_4100, 0x0000_03C5, [0x4004, 0x0000_03C5, SP0,         SP0]),
+    ("msr sp_el0, x0",      0xD518_4100, 0x0000_03C5, [0x4004, 0x0000_03C5, X0,          X0]),
+    ("msr sp_el0, xzr",     0xD518_411F, 0x0000_03C5, [0x4004, 0x0000_03C5, X0,          0]),
+    ("mrs x0, nzcv at el0", 0xD53B_4200, 0xA000_0000, [0x4004, 0xA000_0000, 0xA000_0000, SP0]),
+    ("msr nzcv, x0 at el0", 0xD51B_4200, 0x7000_0000, [0x4004, 0x8000_0000, X0,          SP0]),
+    ("mrs xzr, nzcv",       0xD53B_421F, 0xA000_0005, [0x4004, 0xA000_0005, X0,          SP0]),
+    ("mrs x0, cntvct_el0",  0xD53B_E040, 0x0000_0000, [0x4004, 0x0000_0000, NOW,         SP0]),
+    ("dc civac, x1",        0xD50B_7E21, 0x0000_03C5, [0x4004, 0x0000_03C5, X0,          SP0]),
+];
+
+#[test]
+fn returns_and_registers(rt: HostRuntime) {
+    for row in EFFECTS.as_slice() {
+        effect_agrees(&rt, row);
+    }
+}
+
+fn effect_agrees(rt: &impl Abort, row: &Effect) {
+    let (shows, word, pstate, [pc_after, pstate_after, x0, sp0]) = *row;
+    let mut core = before(PC);
+    assert!(rt; set_pstate(&mut core, u64::from(pstate)), "{shows}");
+    core.sp0 = SP0;
+    core.sys.elr = 0x9000;
+    core.sys.spsr = 0x6000_0000;
+    let mut expected = core;
+    assert!(rt; set_pstate(&mut expected, pstate_after), "{shows}");
+    expected.pc = pc_after;
+    expected.write_x(0, x0);
+    expected.sp0 = sp0;
+    let instr = decode(word);
+    let Need::Done = want(&core, &instr) else {
+        panic!(rt; "{shows}");
+    };
+    let end = complete(&mut core, NOW, &instr);
+    let seen = (
+        core.pc,
+        core.pstate,
+        core.read_x(0),
+        core.sp0,
+        end,
+        core == expected,
+    );
+    assert_eq!(rt;
+        seen,
+        (pc_after, expected.pstate, x0, sp0, None, true),
+        "{shows}"
+    );
+}
+
+/// Sets the flags, the masks and the mode to those of a number, if it has a mode.
+fn set_pstate(core: &mut Core, to: u64) -> bool {
+    let to = (to % (1 << 32)) as u32;
+    let Some(mode) = Mode::of(to) else {
+        return false;
+    };
+    core.set_flags(pstate::flags(to));
+    core.set_daif(pstate::daif(to));
+    core.set_mode(mode);
+    true
 }

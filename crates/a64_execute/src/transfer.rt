@@ -11,6 +11,7 @@ use a64_decode::{Instr, LiteralKind, PairKind, Reg, Transfer, loaded};
 use a64_state::Core;
 
 /// Writes what was loaded to its registers, and the base back, where the instruction does so.
+#[rattlefmt::skip]
 #[tactic(auto, unfolding(crate::specs::Transfer::transferred))]
 pub(crate) fn transfer(core: &mut Core, instr: &Instr, shape: &MemShape, got: u128)
     requires lawful { IsLawful instr.now }
@@ -24,33 +25,28 @@ pub(crate) fn transfer(core: &mut Core, instr: &Instr, shape: &MemShape, got: u1
             let value = loaded(signed, kind != LiteralKind::Word, 8 * shape.width, element);
             core.write_x(rt.0, value);
         }
-        Instr::Pair {
-            kind,
-            load,
-            rt2,
-            rn,
-            rt,
-            ..
-        } => {
+        Instr::Pair { kind, load, rt2, rn, rt, .. } => {
             if load {
                 load_pair(core, kind, shape.width, rt, rt2, got);
             }
             write_back(core, rn, shape.back);
         }
-        Instr::LoadStoreUnsigned { transfer, rt, .. }
-        | Instr::LoadStoreRegister { transfer, rt, .. } => {
+        Instr::LoadStoreUnsigned { transfer, rt, .. } | Instr::LoadStoreRegister { transfer, rt, .. } => {
             load(core, transfer, shape.width, rt, first(got, shape.width));
         }
-        Instr::LoadStoreIndexed {
-            transfer,
-            rn,
-            rt,
-            ..
-        } => {
+        Instr::LoadStoreIndexed { transfer, rn, rt, .. } => {
             load(core, transfer, shape.width, rt, first(got, shape.width));
             write_back(core, rn, shape.back);
         }
-        _ => {}
+        // These have no access.
+        Instr::Address { .. } | Instr::AddSubImmediate { .. } | Instr::LogicalImmediate { .. } | Instr::MoveWide { .. }
+        | Instr::Bitfield { .. } | Instr::Extract { .. } | Instr::Branch { .. } | Instr::BranchConditional { .. }
+        | Instr::CompareBranch { .. } | Instr::TestBranch { .. } | Instr::BranchRegister { .. }
+        | Instr::ExceptionReturn | Instr::Exception { .. } | Instr::Hint { .. } | Instr::Barrier { .. }
+        | Instr::MsrImmediate { .. } | Instr::System { .. } | Instr::SystemRegister { .. } | Instr::LogicalShifted { .. }
+        | Instr::AddSubShifted { .. } | Instr::AddSubExtended { .. } | Instr::AddSubCarry { .. }
+        | Instr::ConditionalCompare { .. } | Instr::ConditionalSelect { .. } | Instr::ThreeSources { .. }
+        | Instr::TwoSources { .. } | Instr::OneSource { .. } | Instr::Undefined => {}
     }
 }
 

@@ -1,4 +1,5 @@
 mod Undefined
 mod Kept
+mod Built
 mod Numbers
 mod Regions

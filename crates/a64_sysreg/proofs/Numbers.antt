@@ -20,11 +20,11 @@ equal-numbers : (a b : ℕ) → (a == b) ≡ true → a ≡ b
 equal-numbers a b h = grind (arith, nat_tests)
 
 -- the number of these parts
-abbrev made : ℕ → ℕ → ℕ → ℕ → ℕ → SysId
+abbrev pub made : ℕ → ℕ → ℕ → ℕ → ℕ → SysId
 made op0 op1 crn crm op2 = record { op0 = op0; op1 = op1; crn = crn; crm = crm; op2 = op2 }
 
 -- a number that is this one has these parts
-parts-of_number :
+pub parts-of_number :
     (op0 op1 crn crm op2 : ℕ) (id : SysId) → numbered op0 op1 crn crm op2 id ≡ true → id ≡ made op0 op1 crn crm op2
 parts-of_number op0 op1 crn crm op2 id h =
     let two : Bool = (id.op0 == op0) && (id.op1 == op1) in

@@ -16,7 +16,7 @@ use Rattle.a64_sysreg.specs.Table.{row, register_of}
 use Rattle.a64_sysreg.specs.Access.{is_readable, is_writable, read_of, answer_of, read_answer, write_answer, may_read, may_write}
 
 -- what is only written is never read
-never-read : (at_el0 : Bool) → IsTrue (allows_read (if at_el0 then Nothing else Write)) → ⊥
+pub never-read : (at_el0 : Bool) → IsTrue (allows_read (if at_el0 then Nothing else Write)) → ⊥
 never-read true allowed = cc
 never-read false allowed = cc
 
@@ -49,7 +49,7 @@ unfolding read_answer may_read
 undefined_read core now id = read-by-register core now (register_of id)
 
 -- what is only read is never written
-never-written : (at_el0 : Bool) → IsTrue (allows_write (if at_el0 then Nothing else Read)) → ⊥
+pub never-written : (at_el0 : Bool) → IsTrue (allows_write (if at_el0 then Nothing else Read)) → ⊥
 never-written true allowed = cc
 never-written false allowed = cc
 

@@ -1,5 +1,5 @@
 -- What MRS and MSR do with the register that they name.
-use Rattle.std.specs.Prelude.{ℕ, Bool, false, if◌then◌else◌, Option, Some, None}
+use Rattle.std.specs.Prelude.{ℕ, Bool, true, false, if◌then◌else◌, Option, Some, None}
 use Rattle.bao_types.specs.declared.sys_id.SysId.{SysId}
 use Rattle.a64_state.specs.Core.{CoreData}
 use Rattle.a64_state.specs.Pstate.{mode}
@@ -44,6 +44,12 @@ may_read core id = is_readable core (register_of id)
 
 unfoldable pub may_write : CoreData → SysId → Bool
 may_write core id = is_writable core (register_of id)
+
+-- a read gives a value
+abbrev pub gives_value : SysRead → Bool
+gives_value (read.Value value) = true
+gives_value read.Undefined = false
+gives_value read.Unbuilt = false
 
 -- MRS
 unfoldable pub read_answer : CoreData → ℕ → SysId → SysRead

@@ -1,7 +1,7 @@
 //! What MRS and MSR do with the register that they name.
 
-ghost use Rattle.std.specs.Prelude.{◌≡◌, ◌≢◌, ◌↔◌, IsFalse};
-ghost use Rattle.a64_sysreg.specs.Access.{may_read as may_read_in, may_write as may_write_in, read_answer, write_answer, written};
+ghost use Rattle.std.specs.Prelude.{◌≡◌, ◌≢◌, ◌↔◌, IsTrue, IsFalse};
+ghost use Rattle.a64_sysreg.specs.Access.{may_read as may_read_in, may_write as may_write_in, gives_value, read_answer, write_answer, written};
 ghost use Rattle.a64_sysreg.specs.Table.{is_unbuilt as is_unbuilt_number};
 
 use crate::reading::read;
@@ -34,20 +34,22 @@ pub enum SysWrite {
 
 /// Reads a system register by MRS at the count `now`, by the table of this crate. Nothing changes yet: the one read that
 /// changes something is that of ICC_IAR1_EL1, which isn't built.
-#[tactic(auto, using(crate::proofs::Undefined::undefined_read))]
+#[tactic(auto, using(crate::proofs::Undefined::undefined_read, crate::proofs::Built::built_read))]
 pub fn read_sys(core: &mut Core, now: u64, id: SysId) -> SysRead
     ensures answer { result ≡ read_answer core.old now id }
     ensures undefined { (result ≡ SysRead.Undefined) ↔ IsFalse (may_read_in core.old id) }
+    ensures built { IsTrue (may_read_in core.old id) → IsFalse (is_unbuilt_number id) → IsTrue (gives_value result) }
     ensures core { core.new ≡ core.old }
 {
     read_register(core, now, id)
 }
 
 /// Writes a system register by MSR at the count `now`, by the table of this crate. A write that isn't Done leaves the core.
-#[tactic(auto, using(crate::proofs::Undefined::undefined_write, crate::proofs::Kept::kept_write))]
+#[tactic(auto, using(crate::proofs::Undefined::undefined_write, crate::proofs::Kept::kept_write, crate::proofs::Built::built_write))]
 pub fn write_sys(core: &mut Core, now: u64, id: SysId, value: u64) -> SysWrite
     ensures answer { result ≡ write_answer core.old id }
     ensures undefined { (result ≡ SysWrite.Undefined) ↔ IsFalse (may_write_in core.old id) }
+    ensures built { IsTrue (may_write_in core.old id) → IsFalse (is_unbuilt_number id) → result ≡ SysWrite.Done }
     ensures core { core.new ≡ written core.old now id value }
     ensures kept { result ≢ SysWrite.Done → core.new ≡ core.old }
 {

@@ -159,7 +159,7 @@ pub fn numbers_are_distinct()
 impl Register {
     /// Whether this is its number, or one of its numbers.
     #[tactic(auto, unfolding(crate::specs::Table::row))]
-    fn has_number(self, id: SysId) -> bool
+    pub fn has_number(self, id: SysId) -> bool
         ensures { result ≡ (row self).number id }
     {
         match self {

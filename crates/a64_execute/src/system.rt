@@ -1,0 +1,96 @@
+//! MRS, and MSR of a register and of a field of PSTATE, but for the step of PC.
+
+ghost use Rattle.std.specs.Prelude.{◌≡◌, ◌<◌, true, false, bit_or, bit_and, if◌then◌else◌};
+ghost use Rattle.a64_decode.specs.Lawful.{IsReg};
+ghost use Rattle.a64_alu.specs.Numbers.{inverted};
+ghost use Rattle.a64_execute.specs.Want.{register_need};
+ghost use Rattle.a64_execute.specs.System.{with_field, with_access};
+
+use crate::Need;
+use a64_decode::{PstateField, Reg};
+use a64_state::{Core, Mode, pstate};
+use a64_sysreg::{SysRead, SysWrite, read_sys, write_sys};
+use bao_types::SysId;
+
+/// Writes an immediate of four bits to a field of PSTATE; the core is at EL1.
+pub(crate) fn write_field(core: &mut Core, field: PstateField, crm: u8)
+    requires { crm < 16 }
+    ensures { core.new ≡ with_field field crm core.old }
+{
+    match field {
+        PstateField::SpSel => select_sp(core, crm % 2 == 1),
+        PstateField::DaifSet => core.set_daif(with_set(pstate::daif(core.pstate), u32::from(crm))),
+        PstateField::DaifClr => core.set_daif(with_clear(
+            pstate::daif(core.pstate),
+            u32::from(crm),
+        )),
+    }
+}
+
+/// Selects EL1's own stack pointer or SP_EL0.
+fn select_sp(core: &mut Core, own: bool)
+    ensures { core.new ≡ with_field PstateField.SpSel (if own then 1 else 0) core.old }
+{
+    core.set_mode(if own { Mode::El1h } else { Mode::El1t });
+}
+
+/// A number of four bits with more of them set.
+fn with_set(bits: u32, more: u32) -> u32
+    requires bits { bits < 16 }
+    requires more { more < 16 }
+    ensures value { result ≡ bit_or bits more }
+    ensures bound { result < 16 }
+{
+    bits | more
+}
+
+/// A number of four bits with some of them clear.
+fn with_clear(bits: u32, less: u32) -> u32
+    requires bits { bits < 16 }
+    requires less { less < 16 }
+    ensures value { result ≡ bit_and bits (inverted 4 less) }
+    ensures bound { result < 16 }
+{
+    bits & (15 - less)
+}
+
+/// Reads a system register into Rt, or writes it from Rt, at the count `now`; the level may do so, and the machine has the
+/// register.
+pub(crate) fn access_register(core: &mut Core, now: u64, read: bool, id: SysId, rt: Reg)
+    requires rt { IsReg rt }
+    requires need { register_need core.old read id ≡ Need.Done }
+    ensures { core.new ≡ with_access read id rt now core.old }
+{
+    if read {
+        read_register(core, now, id, rt);
+    } else {
+        write_register(core, now, id, rt);
+    }
+}
+
+/// MRS, but for the step of PC.
+#[tactic(auto, using(crate::proofs::Shapes::done_register))]
+fn read_register(core: &mut Core, now: u64, id: SysId, rt: Reg)
+    requires rt { IsReg rt }
+    requires need { register_need core.old true id ≡ Need.Done }
+    ensures { core.new ≡ with_access true id rt now core.old }
+{
+    match read_sys(core, now, id) {
+        SysRead::Value(value) => core.write_x(rt.0, value),
+        SysRead::Undefined | SysRead::Unbuilt => unreachable!(),
+    }
+}
+
+/// MSR of a register, but for the step of PC.
+#[tactic(auto, using(crate::proofs::Shapes::done_register))]
+fn write_register(core: &mut Core, now: u64, id: SysId, rt: Reg)
+    requires rt { IsReg rt }
+    requires need { register_need core.old false id ≡ Need.Done }
+    ensures { core.new ≡ with_access false id rt now core.old }
+{
+    let value = core.read_x(rt.0);
+    match write_sys(core, now, id, value) {
+        SysWrite::Done => {}
+        SysWrite::Undefined | SysWrite::TrapEl2 | SysWrite::Unbuilt => unreachable!(),
+    }
+}
