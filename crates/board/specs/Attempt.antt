@@ -1,99 +1,166 @@
--- One instruction of one core: its fetch is judged byte by byte, then the word is decoded; what it asks of memory is judged
--- byte by byte, and carried out in address order.
-use Rattle.std.specs.Prelude.{ℕ, zero, suc, ◌/◌, ◌%◌, ◌==◌, ◌&&◌, not, Bool, true, false, if◌then◌else◌, List, [], ◌∷◌, Option, None, Some}
-use Rattle.std.specs.Option.{option_map}
-use Rattle.bao_types.specs.Bytes.{little_endian, next_address}
-use Rattle.bao_types.specs.declared.access.Access.{Access}
-use Rattle.bao_types.specs.declared.access.Access.TheVariants.{Read, Write, Exec}
+-- One step of one core: PC is aligned, the fetch is judged, the state is legal, the word is decoded; and what the instruction
+-- asks of memory is checked, judged byte by byte, and carried out in address order (ARM DDI 0487, "Synchronous exception
+-- prioritization for exceptions taken to AArch64 state").
+use Rattle.std.specs.Prelude.{ℕ, zero, suc, ◌/◌, ◌%◌, ◌==◌, ◌&&◌, ◌||◌, not, Bool, true, false, if◌then◌else◌, List, [], ◌∷◌, Option, None, Some}
+use Rattle.bao_types.specs.Bits.{field}
+use Rattle.bao_types.specs.Bytes.{next_address}
 use Rattle.bao_types.specs.declared.access.Verdict.{Verdict}
 use Rattle.bao_types.specs.declared.access.Verdict.TheVariants.{Allow, Translation, Permission}
 use Rattle.a64_state.specs.Core.{CoreData}
+use Rattle.a64_state.specs.Registers.{level, sp_of}
+use Rattle.a64_state.specs.Pstate.{illegal_state}
 use Rattle.a64_decode.specs.Table.{decoded}
 use Rattle.a64_decode.specs.declared.instr.Instr.{Instr}
+use Rattle.a64_address.specs.declared.shape.MemShape.{MemShape}
+use Rattle.exceptions.specs.declared.class.Class.{Class}
+use Rattle.exceptions.specs.declared.class.Class.TheVariants.{IllegalState, InstructionAbortLower, InstructionAbortSame, PcAlignment, DataAbortLower, DataAbortSame, SpAlignment}
+use Rattle.exceptions.specs.declared.entry.Cause.TheVariants.{Sync}
+use Rattle.exceptions.specs.Syndrome.{syndrome_of, class_number, abort_syndrome_of}
+use Rattle.exceptions.specs.Entry.{entered}
 use Rattle.a64_execute.specs.declared.need.Need.{Need}
-use Rattle.a64_execute.specs.declared.need.Need.TheVariants.{Done, Load, Store, Unbuilt}
+use Rattle.a64_execute.specs.declared.need.Need.TheVariants as need
 use Rattle.a64_execute.specs.Want.{wanted, bytes_of}
+use Rattle.a64_execute.specs.Branch.{advanced}
 use Rattle.a64_execute.specs.Finish.{finished}
-use Rattle.board.specs.Stage2.{Stage2}
+use Rattle.board.specs.declared.judged.Fault.{Fault}
+use Rattle.board.specs.declared.judged.Judged.{Judged}
+use Rattle.board.specs.declared.judged.Judged.TheVariants.{Memory, Port, Refused}
+use Rattle.board.specs.Judge.{Reach}
 
--- so many bytes of memory from an address on, and the number that they are
-abbrev pub bytes_from : (ℕ → ℕ) → ℕ → ℕ → List ℕ
-bytes_from bytes at zero = []
-bytes_from bytes at (suc n) = bytes at ∷ bytes_from bytes (next_address at) n
+-- What a step comes to. The core goes on, at EL1 where it takes an exception there; or an exception of this syndrome goes to
+-- EL2, with the fault address of an abort, and else 0; or the step does something that isn't built.
+pub data Outcome : Type 0 where
+  Ran : Outcome
+  Leave : (esr far : ℕ) → Outcome
+  Unbuilt : Outcome
 
-abbrev pub number_at : (ℕ → ℕ) → ℕ → ℕ → ℕ
-number_at bytes at n = little_endian (bytes_from bytes at n)
-
--- each of so many addresses from one on passes a test
-abbrev pub all_from : (ℕ → Bool) → ℕ → ℕ → Bool
-all_from test at zero = true
-all_from test at (suc n) = test at && all_from test (next_address at) n
-
-abbrev pub is_allowed : Verdict → Bool
-is_allowed Allow = true
-is_allowed Translation = false
-is_allowed Permission = false
-
--- An access to the byte is carried out: stage 2 allows it. An access to data at a port isn't built.
-abbrev pub reaches : Stage2 → (ℕ → Bool) → Access → ℕ → Bool
-reaches stage2 is_port Read at = is_allowed (stage2 Read at) && not (is_port at)
-reaches stage2 is_port Write at = is_allowed (stage2 Write at) && not (is_port at)
-reaches stage2 is_port Exec at = is_allowed (stage2 Exec at)
-
--- What a core reaches, each byte judged by itself: the word at an address that it may fetch, the number that so many bytes
--- are that it may load, and whether it may store to so many bytes. Where one byte is refused, all are.
-pub record Reach : Type 0 where
-  pub fetched : ℕ → Option ℕ
-  pub loaded : ℕ → ℕ → Option ℕ
-  pub can_store : ℕ → ℕ → Bool
-
--- over memory, by a second stage and the bytes of ports
-abbrev pub reach_of : Stage2 → (ℕ → Bool) → (ℕ → ℕ) → Reach
-reach_of stage2 is_port bytes =
-    record {
-      fetched = λ at.
-          if (at % 4 == 0) && all_from (reaches stage2 is_port Exec) at 4 then Some (number_at bytes at 4) else None;
-      loaded = λ at n. if all_from (reaches stage2 is_port Read) at n then Some (number_at bytes at n) else None;
-      can_store = λ at n. all_from (reaches stage2 is_port Write) at n;
-    }
-
--- What an instruction does: the core after it, and each byte that it stores, with its address, in order.
+-- What a step does: the core after it, each byte that it stores, with its address, in order, and what it comes to.
 pub record Effect : Type 0 where
   pub core : CoreData
   pub stored : List (ℕ × ℕ)
+  pub outcome : Outcome
 
 -- the lowest bytes of a value, so many, from an address on
 abbrev pub stores_from : ℕ → ℕ → ℕ → List (ℕ × ℕ)
 stores_from at zero value = []
 stores_from at (suc n) value = (at, value % 256) ∷ stores_from (next_address at) n (value / 256)
 
--- what an instruction does that asks for this: none, where an access is refused or where it isn't built
-abbrev pub effect_of : Reach → CoreData → ℕ → Instr → Need → Option Effect
-effect_of reach core now instr Done = Some (record { core = finished core now instr 0; stored = [] })
-effect_of reach core now instr (Load shape) =
-    option_map (λ got. record { core = finished core now instr got; stored = [] })
-    (reach.loaded shape.at (bytes_of shape))
-effect_of reach core now instr (Store shape value) =
-    if reach.can_store shape.at (bytes_of shape)
-    then Some (record { core = finished core now instr 0; stored = stores_from shape.at (bytes_of shape) value })
-    else None
-effect_of reach core now instr Unbuilt = None
+-- the core goes on, and nothing is stored
+abbrev pub ran : CoreData → Effect
+ran core = record { core = core; stored = []; outcome = Ran }
 
--- what a fetched word does
-abbrev pub word_effect : Reach → CoreData → ℕ → Option ℕ → Option Effect
-word_effect reach core now None = None
-word_effect reach core now (Some word) = effect_of reach core now (decoded word) (wanted core (decoded word))
+-- the core goes on at EL1, with an exception
+abbrev pub raised : CoreData → ℕ → Option ℕ → ℕ → Effect
+raised core esr far back = ran (entered core (Sync esr far back))
 
--- What the instruction at PC does at the system count `now`. There is none where it isn't built: where its fetch or its
--- access is refused, where it reaches a port, and where its row isn't built.
-unfoldable pub attempt : Reach → CoreData → ℕ → Option Effect
-attempt reach core now = word_effect reach core now (reach.fetched core.pc)
+-- an exception goes to EL2
+abbrev pub left : CoreData → ℕ → ℕ → Effect
+left core esr far = record { core = core; stored = []; outcome = Leave esr far }
 
--- one that isn't built changes nothing
-abbrev pub core_of : CoreData → Option Effect → CoreData
-core_of core None = core
-core_of core (Some effect) = effect.core
+-- the step isn't built, and changes nothing
+abbrev pub unbuilt : CoreData → Effect
+unbuilt core = record { core = core; stored = []; outcome = Unbuilt }
 
-abbrev pub stored_of : Option Effect → List (ℕ × ℕ)
-stored_of None = []
-stored_of (Some effect) = effect.stored
+-- the syndrome of a class that says nothing more
+abbrev pub bare_syndrome : Class → ℕ
+bare_syndrome class = syndrome_of (class_number class) 0
+
+-- the fault status code of a verdict; what is allowed has none
+abbrev pub code_of : Verdict → ℕ
+code_of Allow = 0
+code_of Translation = 0x04
+code_of Permission = 0x0C
+
+-- and that of a misaligned access
+abbrev pub alignment_code : ℕ
+alignment_code = 0x21
+
+-- the class of an abort, of those from below and at the same level: EL2 and EL1 are above EL0, and EL2 is above EL1
+abbrev pub abort_class : Class → Class → CoreData → Bool → Class
+abort_class lower same core stage2 = if stage2 || level core == 0 then lower else same
+
+-- EL2 takes an abort that the second stage makes, and EL1 all others. The core stays at the instruction, or returns to it.
+abbrev pub aborted : CoreData → Bool → ℕ → ℕ → Effect
+aborted core stage2 esr at = if stage2 then left core esr at else raised core esr (Some at) core.pc
+
+-- of a fetch
+abbrev pub fetch_aborted : CoreData → Fault → Effect
+fetch_aborted core fault =
+    aborted core fault.stage2
+    (syndrome_of (class_number (abort_class InstructionAbortLower InstructionAbortSame core fault.stage2)) (code_of fault.verdict))
+    fault.at
+
+-- of a load or a store
+abbrev pub data_aborted : CoreData → Instr → Bool → ℕ → ℕ → Effect
+data_aborted core instr stage2 code at =
+    aborted core stage2
+    (abort_syndrome_of (class_number (abort_class DataAbortLower DataAbortSame core stage2)) stage2 instr code) at
+
+-- SCTLR_EL1.A: the start of an access is checked
+abbrev pub checks_alignment : CoreData → Bool
+checks_alignment core = field core.sys.sctlr 1 1 == 1
+
+-- SCTLR_EL1.SA at EL1, and SA0 at EL0: SP is checked where it is the base
+abbrev pub checks_sp : CoreData → Bool
+checks_sp core = if level core == 1 then field core.sys.sctlr 3 3 == 1 else field core.sys.sctlr 4 4 == 1
+
+-- the check of SP fails: it isn't a multiple of 16
+abbrev pub is_sp_misaligned : CoreData → MemShape → Bool
+is_sp_misaligned core shape = shape.base_sp && checks_sp core && not (sp_of core % 16 == 0)
+
+-- the start isn't a multiple of an element's width
+abbrev pub is_misaligned : MemShape → Bool
+is_misaligned shape = not (shape.at % shape.width == 0)
+
+-- EL1 takes the alignment fault of an access
+abbrev pub misaligned : CoreData → Instr → MemShape → Effect
+misaligned core instr shape = data_aborted core instr false alignment_code shape.at
+
+-- an access is checked for SP and for its start, before it is judged
+abbrev pub checked : CoreData → Instr → MemShape → Effect → Effect
+checked core instr shape judged =
+    if is_sp_misaligned core shape then raised core (bare_syndrome SpAlignment) None core.pc
+    else if checks_alignment core && is_misaligned shape then misaligned core instr shape
+    else judged
+
+-- An access to a port is always aligned. One that is isn't built.
+abbrev pub port_effect : CoreData → Instr → MemShape → Effect
+port_effect core instr shape = if is_misaligned shape then misaligned core instr shape else unbuilt core
+
+-- a load, and a store of a value, as they are judged
+abbrev pub load_effect : CoreData → ℕ → Instr → MemShape → Judged → Effect
+load_effect core now instr shape (Memory got) = ran (finished core now instr got)
+load_effect core now instr shape Port = port_effect core instr shape
+load_effect core now instr shape (Refused fault) = data_aborted core instr fault.stage2 (code_of fault.verdict) fault.at
+
+abbrev pub store_effect : CoreData → ℕ → Instr → MemShape → ℕ → Judged → Effect
+store_effect core now instr shape value (Memory got) =
+    record (ran (finished core now instr 0)) { stored = stores_from shape.at (bytes_of shape) value }
+store_effect core now instr shape value Port = port_effect core instr shape
+store_effect core now instr shape value (Refused fault) =
+    data_aborted core instr fault.stage2 (code_of fault.verdict) fault.at
+
+-- What an instruction does that asks for this. An exception that goes to EL2 and is no abort changes PC at most.
+abbrev pub effect_of : Reach → CoreData → ℕ → Instr → Need → Effect
+effect_of reach core now instr need.Done = ran (finished core now instr 0)
+effect_of reach core now instr (need.Load shape) =
+    checked core instr shape (load_effect core now instr shape (reach.loaded shape.at (bytes_of shape)))
+effect_of reach core now instr (need.Store shape value) =
+    checked core instr shape (store_effect core now instr shape value (reach.storable shape.at (bytes_of shape)))
+effect_of reach core now instr (need.Raise esr back) = raised core esr None back
+effect_of reach core now instr (need.Leave esr behind) = left (if behind then advanced core else core) esr 0
+effect_of reach core now instr need.Unbuilt = unbuilt core
+
+-- What the fetch gives: a word, which isn't looked at in an illegal state, or a fault. It never gives a port.
+abbrev pub word_effect : Reach → CoreData → ℕ → Judged → Effect
+word_effect reach core now (Memory word) =
+    if illegal_state core.pstate then raised core (bare_syndrome IllegalState) None core.pc
+    else effect_of reach core now (decoded word) (wanted core (decoded word))
+word_effect reach core now Port = unbuilt core
+word_effect reach core now (Refused fault) = fetch_aborted core fault
+
+-- What a step does at the system count `now`. A PC that isn't a multiple of 4 makes no fetch.
+unfoldable pub attempt : Reach → CoreData → ℕ → Effect
+attempt reach core now =
+    if core.pc % 4 == 0 then word_effect reach core now (reach.fetched core.pc)
+    else raised core (bare_syndrome PcAlignment) (Some core.pc) core.pc

@@ -1,4 +1,6 @@
-pub mod Stage2
+pub mod Stage
+pub mod Judge
+pub mod First
 pub mod Attempt
 pub mod Machine
 pub mod Reached

@@ -1,5 +1,5 @@
 -- The state of a board, as the hypervisor sees it, and what each call makes of it.
-use Rattle.std.specs.Prelude.{◌≡◌, ℕ, ◌+◌, ◌-◌, ◌<◌, ◌≤◌, ◌==◌, ◌&&◌, ◌⊎◌, nat_le, nat_lt, Bool, true, if◌then◌else◌, IsTrue, IsFalse, Option, is_none, List, [], ◌∷◌, All, map, length, replicate, slice_index, slice_index_or, slice_set, sum}
+use Rattle.std.specs.Prelude.{◌≡◌, ℕ, ◌+◌, ◌-◌, ◌<◌, ◌≤◌, ◌==◌, ◌&&◌, ◌⊎◌, nat_le, nat_lt, Bool, true, if◌then◌else◌, IsTrue, IsFalse, List, [], ◌∷◌, All, map, length, replicate, slice_index, slice_index_or, slice_set, sum}
 use Rattle.std.specs.List.{AllPairs, list_any}
 use Rattle.bao_types.specs.declared.region.Region.{Region}
 use Rattle.bao_types.specs.ByteRange.{address_space_end, end, is_in_one, lies_in, overlaps}
@@ -7,8 +7,11 @@ use Rattle.bao_types.specs.Region.{no_region, access_permission, covers, is_enab
 use Rattle.bao_types.specs.Shape.{ShapeData, event_limit, is_port_of, port_range}
 use Rattle.a64_state.specs.Core.{CoreData}
 use Rattle.a64_state.specs.Registers.{reset_core}
-use Rattle.board.specs.Stage2.{by_entries}
-use Rattle.board.specs.Attempt.{Reach, reach_of, Effect, attempt, core_of, stored_of}
+use Rattle.board.specs.Stage.{by_regions, by_entries}
+use Rattle.board.specs.declared.board.Exit.{Exit}
+use Rattle.board.specs.declared.board.Exit.TheVariants as exit
+use Rattle.board.specs.Judge.{Reach, reach_of}
+use Rattle.board.specs.Attempt.{Outcome, Ran, Leave, Unbuilt, Effect, attempt}
 
 -- bytes is all memory by address, 0 outside the used ranges; entries are each core's EL2 protection regions; console is what each
 -- port by its id has put out; count is what the last step was handed; entered and spent count the steps and the events since
@@ -102,24 +105,27 @@ core_started shape core pc arg =
     let fresh = reset_core (slice_index_or shape.cores core (record { entries = 0; affinity = 0 })).affinity
     in record fresh { x = slice_set fresh.x 0 arg; pc = pc }
 
--- what a core reaches by its entries
+-- what a core reaches, by its EL1 regions and its EL2 entries
 abbrev pub machine_reach : Machine → ℕ → Reach
-machine_reach m core = reach_of (by_entries (entries_at m.entries core)) (is_port m.shape) m.bytes
+machine_reach m core =
+    reach_of (by_regions (core_at m.cores core)) (by_entries (entries_at m.entries core)) (is_port m.shape) m.bytes
 
 -- what the core's next step does at a count
-abbrev pub step_attempt : Machine → ℕ → ℕ → Option Effect
+abbrev pub step_attempt : Machine → ℕ → ℕ → Effect
 step_attempt m core now = attempt (machine_reach m core) (core_at m.cores core) now
 
--- that step isn't built
-abbrev pub step_is_unbuilt : Machine → ℕ → ℕ → Bool
-step_is_unbuilt m core now = is_none (step_attempt m core now)
+-- what a step tells of what it comes to
+abbrev pub exit_of : Outcome → Exit
+exit_of Ran = exit.Ran
+exit_of (Leave esr far) = exit.Sync esr far
+exit_of Unbuilt = exit.Unbuilt
 
 -- after a step of the core that is handed a count
 abbrev pub stepped : Machine → ℕ → ℕ → Machine
 stepped m core now =
     record m {
-      bytes = written (stored_of (step_attempt m core now)) m.bytes;
-      cores = slice_set m.cores core (core_of (core_at m.cores core) (step_attempt m core now));
+      bytes = written (step_attempt m core now).stored m.bytes;
+      cores = slice_set m.cores core (step_attempt m core now).core;
       count = now;
       entered = m.entered + 1;
       spent = m.spent + 1;

@@ -1,4 +1,4 @@
-ghost use Rattle.std.specs.Prelude.{◌≡◌, ◌<◌, length, slice_index, slice_index_or, slice_set, OnOk, OnErr, true, false, if◌then◌else◌};
+ghost use Rattle.std.specs.Prelude.{◌≡◌, ◌<◌, length, slice_index, slice_index_or, slice_set, OnOk, OnErr, true, false};
 ghost use Rattle.bao_types.specs.Shape.{shape_data};
 
 use crate::CoreView;
@@ -8,8 +8,16 @@ use std::alloc::Global;
 /// Why a core stopped after a step.
 #[derive(Clone, Copy, Debug, PartialEq, Eq)]
 pub enum Exit {
-    /// The core has executed one instruction.
+    /// The core has executed one instruction, or has taken an exception at EL1.
     Ran,
+    /// An exception goes to EL2: a call, or an abort that stage 2 makes. HVC leaves PC behind itself, all else leaves it at
+    /// the instruction; the other registers and memory are as before.
+    Sync {
+        /// The syndrome, as ESR_EL2 has it.
+        esr: u64,
+        /// The fault address of an abort, else 0.
+        far: u64,
+    },
     /// The core would have done something that the machine hasn't built yet. Its registers and memory are as before.
     Unbuilt,
 }
@@ -19,7 +27,7 @@ pub enum Exit {
 /// A board is fitted once with its shape. Every call but `fit` and `entered` asks that it is fitted, and a core, entry or
 /// port in a call is one of the shape's.
 pub trait Board {
-    ghost use Rattle.board.specs.Machine.{Machine, IsFittable, fitted_with, over, AreUsed, IsSafeEntry, with_entry, entries_at, core_started, core_at, stepped, step_is_unbuilt};
+    ghost use Rattle.board.specs.Machine.{Machine, IsFittable, fitted_with, over, AreUsed, IsSafeEntry, with_entry, entries_at, core_started, core_at, step_attempt, stepped, exit_of};
     ghost use Rattle.bao_types.specs.Region.{no_region, IsWithinMasks};
     ghost use Rattle.board.specs.View.{view_of};
 
@@ -67,13 +75,13 @@ pub trait Board {
           cores = slice_set (state self.old).cores core (core_started (state self.old).shape core pc arg);
         } };
 
-    /// Lets a core execute one instruction, at the system count `now`.
+    /// Lets a core take one step, at the system count `now`: an instruction, or the exception that comes in its place.
     fn step(&mut self, core: u8, now: u64) -> Exit
         requires fitted { (state self.old).fitted ≡ true }
         requires core { core < length (state self.old).shape.cores }
         requires spent { (state self.old).spent < (state self.old).shape.events }
         ensures state { state self.new ≡ stepped (state self.old) core now }
-        ensures exit { result ≡ (if step_is_unbuilt (state self.old) core now then Exit.Unbuilt else Exit.Ran) };
+        ensures exit { result ≡ exit_of (step_attempt (state self.old) core now).outcome };
 
     /// The byte at an address: 0 where no memory is in use.
     fn byte_at(&self, at: u64) -> u8

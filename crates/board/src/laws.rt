@@ -1,13 +1,22 @@
+ghost use Rattle.board.specs.First.{FaultsAreFirst};
 ghost use Rattle.board.specs.Reached.{DisturbsNothingElse, ObservesNothingElse};
 
-/// A step of a core, on the machine and in the model, leaves each byte that the second stage doesn't let it write. The
-/// function does nothing; its contract is the law.
+/// An access has no fault exactly where both stages allow each of its bytes; else it has that of the first byte, in address
+/// order, that one of them refuses, by the stage that does, of which the first is asked before the second. The function
+/// does nothing; its contract is the law.
+#[tactic(auto, using(crate::proofs::First::faults_are_first))]
+pub fn a_fault_is_of_the_first_refused_byte()
+    ensures { FaultsAreFirst }
+{}
+
+/// A step of a core, on the machine and in the model, leaves each byte that one of both stages doesn't let it write.
+/// The function does nothing; its contract is the law.
 #[tactic(auto, using(crate::proofs::Reached::disturbs_nothing_else))]
 pub fn a_step_disturbs_nothing_else()
     ensures { DisturbsNothingElse }
 {}
 
-/// A step of a core does the same over any two memories that are equal at each byte that the second stage lets it read
+/// A step of a core does the same over any two memories that are equal at each byte that both stages let it read
 /// or execute: nothing of the others shows in its registers, in what it stores, or in whether it is built. The function
 /// does nothing; its contract is the law.
 #[tactic(auto, using(crate::proofs::Reached::observes_nothing_else))]

@@ -6,9 +6,14 @@
 #![tactic(auto)]
 
 pub use board::{Board, Exit};
-pub use laws::{a_step_disturbs_nothing_else, a_step_observes_nothing_else};
+pub use judged::{Fault, Judged};
+pub use laws::{
+    a_fault_is_of_the_first_refused_byte, a_step_disturbs_nothing_else,
+    a_step_observes_nothing_else,
+};
 pub use view::CoreView;
 
 mod board;
+mod judged;
 mod laws;
 mod view;

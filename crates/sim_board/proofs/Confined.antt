@@ -11,7 +11,8 @@ use Rattle.bao_types.specs.RegionMatch.{match_of}
 use Rattle.bao_types.specs.Shape.{ShapeData}
 use Rattle.bao_types.specs.declared.shape.CorePlace.{CorePlace}
 use Rattle.pmsa_stage2.specs.Stage2.{gives_guest, match_verdict, stage2}
-use Rattle.board.specs.Attempt.{is_allowed, reaches}
+use Rattle.board.specs.Stage.{is_allowed}
+use Rattle.board.specs.Judge.{reaches}
 use Rattle.board.specs.Machine.{IsSafeEntry, is_used, is_port}
 use Rattle.sim_board.specs.Sound.{IsConfined}
 

@@ -1,6 +1,10 @@
-pub mod Access
+pub mod Weaker
 pub mod Placed
 pub mod Confined
 pub mod Fresh
 pub mod Kept
 pub mod Same
+pub mod Judged
+pub mod Halves
+pub mod Stored
+pub mod Stopped

@@ -1,5 +1,6 @@
 -- The bytes of a board's memory by address.
-use Rattle.std.specs.Prelude.{ℕ, Bool, false, Option, Some, None}
+use Rattle.std.specs.Prelude.{◌≡◌, ◌⊎◌, ℕ, Bool, false, Option, Some, None}
+use Rattle.bao_types.specs.Bytes.{IsWidth}
 use Rattle.phys_bank.specs.Banks.{BanksData, byte_at, is_kept}
 
 -- the bytes that a board keeps; none before it is fitted
@@ -11,3 +12,7 @@ held_bytes (Some memory) = byte_at memory
 abbrev pub is_held : Option BanksData → ℕ → Bool
 is_held None at = false
 is_held (Some memory) at = is_kept memory at
+
+-- the bytes of an access: those of one element, or of a pair of doublewords; a pair of shorter ones has the bytes of one
+abbrev pub IsSpanned : ℕ → Type 0
+IsSpanned count = IsWidth count ⊎ (count ≡ 16)

@@ -1,5 +1,5 @@
 -- What a `SimBoard` is to the trait `Board`.
-use Rattle.std.specs.Prelude.{[], map, is_some}
+use Rattle.std.specs.Prelude.{[], is_some}
 use Rattle.bao_types.specs.Shape.{shape_data}
 use Rattle.board.specs.Machine.{Machine}
 use Rattle.sim_board.specs.declared.machine.SimBoard.{SimBoard}
@@ -12,7 +12,7 @@ state_of board =
       shape = shape_data board.shape;
       bytes = held_bytes board.memory;
       cores = board.cores.items;
-      entries = map (λ entries. entries.items) board.entries.items;
+      entries = board.tables.items;
       console = λ port. [];
       count = board.count;
       entered = board.entered;

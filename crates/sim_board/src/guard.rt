@@ -1,37 +1,41 @@
+//! What guards a board's memory besides protection: the ports, which no access to data reaches yet.
 ghost use Rattle.std.specs.Prelude.{◌≡◌};
-ghost use Rattle.board.specs.Attempt.{all_from};
-ghost use Rattle.sim_board.specs.Guard.{reached};
+ghost use Rattle.bao_types.specs.Shape.{is_port_of};
+ghost use Rattle.board.specs.Judge.{is_free};
+ghost use Rattle.sim_board.specs.Gap.{IsGap};
 
-use bao_types::{Access, PortSpot, Region, Verdict, is_port};
-use pmsa_stage2::judge2;
+use crate::gap::Gap;
+use bao_types::{PortSpot, is_port};
 
-/// What decides which bytes a core reaches: its EL2 entries, and the ports, which no access to data reaches yet.
+/// The ports of a board, and a gap between them.
 #[derive(Clone, Copy)]
 pub struct Guard<'a> {
-    pub entries: &'a [Region],
     pub ports: &'a [PortSpot],
+    /// Addresses that need no look at each port.
+    pub gap: Gap,
+    ghost right: { IsGap ports.now gap },
 }
 
 impl Guard<'_> {
-    /// Whether each of so many bytes from `at` on is reached, judged one by one. Addresses wrap at 2^64.
-    pub fn reaches_all(&self, access: Access, at: u64, count: u32) -> bool
-        ensures { result ≡ all_from (reached self.now access) at count }
+    /// Whether none of so many bytes is a port's.
+    #[inline(always)]
+    pub fn is_free(&self, at: u64, count: u8) -> bool
+        ensures { result ≡ is_free (is_port_of self.now.ports.now) at count }
     {
-        for k in 0..u64::from(count) {
-            if !self.reaches(access, at.wrapping_add(k)) {
-                return false;
-            }
-        }
-        true
+        self.gap.has_all(at, count) || self.is_each_free(at, count)
     }
 
-    /// Whether the byte at an address is reached.
-    fn reaches(&self, access: Access, at: u64) -> bool
-        ensures { result ≡ reached self.now access at }
+    /// The same, byte by byte.
+    #[inline(never)]
+    fn is_each_free(&self, at: u64, count: u8) -> bool
+        ensures { result ≡ is_free (is_port_of self.now.ports.now) at count }
     {
-        if judge2(self.entries, access, at) != Verdict::Allow {
+        if count == 0 {
+            return true;
+        }
+        if is_port(self.ports, at) {
             return false;
         }
-        access == Access::Exec || !is_port(self.ports, at)
+        self.is_each_free(at.wrapping_add(1), count - 1)
     }
 }

@@ -3,8 +3,10 @@ ghost use Rattle.bao_types.specs.Shape.{shape_data};
 ghost use Rattle.a64_state.specs.Registers.{reset_core};
 ghost use Rattle.bao_types.specs.Region.{no_region};
 ghost use Rattle.board.specs.Machine.{entries_at};
+ghost use Rattle.sim_board.specs.Gap.{IsGap};
 ghost use Rattle.sim_board.specs.Sound.{IsSound};
 
+use crate::gap::Gap;
 use crate::guard::Guard;
 use crate::memory::copy_in;
 use crate::step::step_core;
@@ -13,6 +15,7 @@ use arrayvec::ArrayVec;
 use bao_types::{CorePlace, OutOfMemory, Region, Shape};
 use board::{Board, CoreView, Exit};
 use phys_bank::Banks;
+use pmsa_table::Table;
 use std::alloc::{AllocError, Global};
 
 /// The simulated machine.
@@ -22,13 +25,15 @@ pub struct SimBoard {
     /// None before the board is fitted.
     memory: Option<Banks>,
     cores: Vec<Core>,
-    /// The EL2 entries of each core.
-    entries: Vec<ArrayVec<Region, 32>>,
+    /// The EL2 entries of each core, compiled.
+    tables: Vec<Table>,
+    /// Where memory in use lies, as a rule.
+    gap: Gap,
     /// What the last step was handed.
     count: u64,
     entered: u64,
     spent: u64,
-    ghost sound: { IsSound shape memory (length cores.items) (map (λ e. e.items) entries.items) entered spent },
+    ghost sound: { IsSound shape memory (length cores.items) tables.items gap entered spent },
 }
 
 impl SimBoard {
@@ -43,7 +48,8 @@ impl SimBoard {
             shape: Shape::default(),
             memory: None,
             cores: Vec::new(alloc),
-            entries: Vec::new(alloc),
+            tables: Vec::new(alloc),
+            gap: Gap::NONE,
             count: 0,
             entered: 0,
             spent: 0,
@@ -69,18 +75,22 @@ fn reset_cores(alloc: Global, places: &[CorePlace]) -> Result<Vec<Core>, AllocEr
 }
 
 /// Each core's EL2 entries, all of them zero.
-fn zero_entries(
-    alloc: Global,
-    places: &[CorePlace],
-) -> Result<Vec<ArrayVec<Region, 32>>, AllocError>
+fn zero_tables(alloc: Global, places: &[CorePlace]) -> Result<Vec<Table>, AllocError>
     requires { All (λ place. place.entries ≤ 32) places.now }
-    ensures { IfOk result (λ entries. entries.items
-        ≡ map (λ place. record { items = replicate place.entries no_region }) places.now) }
+    ensures { IfOk result (λ tables. tables.items ≡ map (λ place. replicate place.entries no_region) places.now) }
 {
     places
         .iter()
-        .map(|place| zeros(place.entries))
+        .map(|place| zero_table(place.entries))
         .collect(alloc)
+}
+
+/// The table of so many zero entries.
+fn zero_table(count: u8) -> Table
+    requires { count ≤ 32 }
+    ensures { result ≡ replicate count no_region }
+{
+    Table::of(&zeros(count))
 }
 
 /// So many zero entries.
@@ -95,22 +105,26 @@ fn zeros(count: u8) -> ArrayVec<Region, 32>
     entries
 }
 
-/// Sets one entry of one core.
-fn set_one(entries: &mut Vec<ArrayVec<Region, 32>>, core: usize, index: usize, entry: Region)
-    requires core { core < length entries.old.items }
-    requires index { index < length (entries_at (map (λ e. e.items) entries.old.items) core) }
-    ensures len { length entries.new.items ≡ length entries.old.items }
-    ensures items { map (λ e. e.items) entries.new.items ≡ slice_set (map (λ e. e.items) entries.old.items) core
-        (slice_set (entries_at (map (λ e. e.items) entries.old.items) core) index entry) }
+/// A gap between the ports, around the first memory in use.
+fn gap_of(shape: &Shape) -> Gap
+    ensures { IsGap (shape_data shape.now).ports result }
 {
-    set_in(&mut entries[core], index, entry);
+    let at = match shape.used.first() {
+        Some(range) => range.base,
+        None => 0,
+    };
+    Gap::around(&shape.ports, at)
 }
 
-fn set_in(entries: &mut ArrayVec<Region, 32>, index: usize, entry: Region)
-    requires { index < length entries.old.items }
-    ensures { entries.new.items ≡ slice_set entries.old.items index entry }
+/// Sets one entry of one core.
+fn set_one(tables: &mut Vec<Table>, core: usize, index: usize, entry: Region)
+    requires core { core < length tables.old.items }
+    requires index { index < length (entries_at tables.old.items core) }
+    ensures len { length tables.new.items ≡ length tables.old.items }
+    ensures items { tables.new.items ≡ slice_set tables.old.items core
+        (slice_set (entries_at tables.old.items core) index entry) }
 {
-    entries[index] = entry;
+    tables[core].set(index, entry);
 }
 
 impl Board for SimBoard {
@@ -122,12 +136,14 @@ impl Board for SimBoard {
         let copy = copy_shape(shape)?;
         let memory = Banks::new(alloc, &shape.banks, &shape.used)?;
         let cores = reset_cores(alloc, &shape.cores)?;
-        let entries = zero_entries(alloc, &shape.cores)?;
+        let tables = zero_tables(alloc, &shape.cores)?;
+        let gap = gap_of(&copy);
         *self = SimBoard {
             shape: copy,
             memory: Some(memory),
             cores,
-            entries,
+            tables,
+            gap,
             count: 0,
             entered: 0,
             spent: 0,
@@ -144,7 +160,7 @@ impl Board for SimBoard {
 
     fn set_entry(&mut self, core: u8, index: u8, entry: Region) {
         set_one(
-            &mut self.entries,
+            &mut self.tables,
             usize::from(core),
             usize::from(index),
             entry,
@@ -152,7 +168,7 @@ impl Board for SimBoard {
     }
 
     fn entry(&self, core: u8, index: u8) -> Region {
-        self.entries[usize::from(core)][usize::from(index)]
+        self.tables[usize::from(core)].entries()[usize::from(index)]
     }
 
     fn reset_core(&mut self, core: u8, pc: u64, arg: u64) {
@@ -169,10 +185,16 @@ impl Board for SimBoard {
         };
         let at = usize::from(core);
         let guard = Guard {
-            entries: &self.entries[at],
             ports: &self.shape.ports,
+            gap: self.gap,
         };
-        let exit = step_core(&mut self.cores[at], memory, &guard, now);
+        let exit = step_core(
+            &mut self.cores[at],
+            memory,
+            &mut self.tables[at],
+            &guard,
+            now,
+        );
         self.count = now;
         self.entered += 1;
         self.spent += 1;

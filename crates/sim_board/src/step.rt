@@ -1,61 +1,207 @@
 ghost use Rattle.std.specs.Prelude.{◌≡◌, ◌≤◌, if◌then◌else◌, IsTrue, Some};
 ghost use Rattle.a64_decode.specs.Lawful.{IsLawful};
+ghost use Rattle.a64_execute.specs.Branch.{advanced};
 ghost use Rattle.a64_execute.specs.Want.{wanted, access_asked, bytes_of, IsAccess};
 ghost use Rattle.a64_execute.specs.Finish.{finished};
-ghost use Rattle.board.specs.Attempt.{attempt, effect_of, stores_from};
-ghost use Rattle.board.specs.Machine.{written};
+ghost use Rattle.board.specs.Attempt.{attempt, checked, effect_of, load_effect, store_effect};
 ghost use Rattle.phys_bank.specs.Banks.{byte_at, is_kept};
 ghost use Rattle.sim_board.specs.Guard.{guarded, IsContained};
-ghost use Rattle.sim_board.specs.Step.{carried_out};
+ghost use Rattle.sim_board.specs.Step.{carried_out, Ends};
 
+use crate::access::{fetch, load, store};
+use crate::fault::{is_stopped, raise, reach_port, refuse_data, refuse_fetch, stop};
 use crate::guard::Guard;
-use crate::memory::{number_at, store as store_number};
 use a64_address::MemShape;
 use a64_decode::{Instr, decode};
 use a64_execute::{Need, complete, complete_access, want};
-use a64_state::Core;
-use bao_types::Access;
-use board::Exit;
+use a64_state::{Core, pstate};
+use board::{Exit, Judged};
+use exceptions::{Class, syndrome};
 use phys_bank::Banks;
+use pmsa_table::Table;
 
-/// Lets a core execute the instruction at its PC, at the system count `now`.
+/// Lets a core take a step, at the system count `now`: PC is looked at first, then the fetch is judged, and then PSTATE.IL
+/// is looked at, before the word.
 #[tactic(auto, unfolding(board::specs::Attempt::attempt))]
-pub(crate) fn step_core(core: &mut Core, memory: &mut Banks, guard: &Guard<'_>, now: u64) -> Exit
-    requires { IsContained (is_kept memory.old) guard.now }
+pub(crate) fn step_core(
+    core: &mut Core,
+    memory: &mut Banks,
+    table: &mut Table,
+    guard: &Guard<'_>,
+    now: u64,
+) -> Exit
+    requires { IsContained (is_kept memory.old) table.old guard.now }
     ensures kept { is_kept memory.new ≡ is_kept memory.old }
+    ensures entries { table.new ≡ table.old }
     ensures end { record { core = core.new; bytes = byte_at memory.new; exit = result }
-        ≡ carried_out (attempt (guarded guard.now (byte_at memory.old)) core.old now) core.old (byte_at memory.old) }
+        ≡ carried_out (attempt (guarded core.old table.old guard.now (byte_at memory.old)) core.old now) (byte_at memory.old) }
 {
-    match fetch(memory, guard, core.pc) {
-        Some(word) => execute(core, memory, guard, now, &decode(word)),
-        None => Exit::Unbuilt,
+    let pc = core.pc;
+    if pc % 4 != 0 {
+        return raise(core, syndrome(Class::PcAlignment, 0), Some(pc), pc);
+    }
+    match fetch(core, memory, table, pc) {
+        Err(fault) => refuse_fetch(core, fault),
+        Ok(_) if pstate::illegal_state(core.pstate) => {
+            raise(core, syndrome(Class::IllegalState, 0), None, pc)
+        }
+        Ok(word) => execute(core, memory, table, guard, now, &decode(word)),
     }
 }
 
 /// Executes an instruction that was fetched.
-fn execute(core: &mut Core, memory: &mut Banks, guard: &Guard<'_>, now: u64, instr: &Instr) -> Exit
+#[inline(always)]
+fn execute(
+    core: &mut Core,
+    memory: &mut Banks,
+    table: &mut Table,
+    guard: &Guard<'_>,
+    now: u64,
+    instr: &Instr,
+) -> Exit
     requires lawful { IsLawful instr.now }
-    requires contained { IsContained (is_kept memory.old) guard.now }
+    requires contained { IsContained (is_kept memory.old) table.old guard.now }
     ensures kept { is_kept memory.new ≡ is_kept memory.old }
+    ensures entries { table.new ≡ table.old }
     ensures end { record { core = core.new; bytes = byte_at memory.new; exit = result }
-        ≡ carried_out (effect_of (guarded guard.now (byte_at memory.old)) core.old now instr.now (wanted core.old instr.now))
-        core.old (byte_at memory.old) }
+        ≡ carried_out
+        (effect_of (guarded core.old table.old guard.now (byte_at memory.old)) core.old now instr.now (wanted core.old instr.now))
+        (byte_at memory.old) }
 {
     match want(core, instr) {
         Need::Done => finish(core, now, instr),
-        Need::Load { shape } => match load(memory, guard, &shape) {
-            Some(got) => finish_access(core, now, instr, &shape, got),
-            None => Exit::Unbuilt,
-        },
+        Need::Load { shape } => execute_load(core, memory, table, guard, now, instr, &shape),
         Need::Store { shape, value } => {
-            if store(memory, guard, &shape, value) {
-                finish_access(core, now, instr, &shape, 0)
-            } else {
-                Exit::Unbuilt
-            }
+            execute_store(core, memory, table, guard, now, instr, &shape, value)
         }
+        Need::Raise { esr, back } => raise(core, esr, None, back),
+        Need::Leave { esr, behind } => leave(core, esr, behind),
         Need::Unbuilt => Exit::Unbuilt,
     }
+}
+
+/// Executes a load.
+#[inline(always)]
+fn execute_load(
+    core: &mut Core,
+    memory: &Banks,
+    table: &mut Table,
+    guard: &Guard<'_>,
+    now: u64,
+    instr: &Instr,
+    shape: &MemShape,
+) -> Exit
+    requires lawful { IsLawful instr.now }
+    requires access { IsAccess shape.now }
+    requires need { access_asked (wanted core.old instr.now) ≡ Some shape.now }
+    ensures entries { table.new ≡ table.old }
+    ensures end { Ends
+        (checked core.old instr.now shape.now (load_effect core.old now instr.now shape.now
+        ((guarded core.old table.old guard.now (byte_at memory.now)).loaded shape.now.at (bytes_of shape.now))))
+        core.new result }
+{
+    if is_stopped(core, shape) {
+        return stop(core, instr, shape);
+    }
+    take_load(core, memory, table, guard, now, instr, shape)
+}
+
+/// Takes a load whose SP and start were checked.
+#[inline(always)]
+fn take_load(
+    core: &mut Core,
+    memory: &Banks,
+    table: &mut Table,
+    guard: &Guard<'_>,
+    now: u64,
+    instr: &Instr,
+    shape: &MemShape,
+) -> Exit
+    requires lawful { IsLawful instr.now }
+    requires access { IsAccess shape.now }
+    requires need { access_asked (wanted core.old instr.now) ≡ Some shape.now }
+    ensures entries { table.new ≡ table.old }
+    ensures end { Ends
+        (load_effect core.old now instr.now shape.now
+        ((guarded core.old table.old guard.now (byte_at memory.now)).loaded shape.now.at (bytes_of shape.now))) core.new result }
+{
+    match load(core, memory, table, guard, shape) {
+        Judged::Memory(got) => finish_access(core, now, instr, shape, got),
+        Judged::Port => reach_port(core, instr, shape),
+        Judged::Refused(fault) => refuse_data(core, instr, fault),
+    }
+}
+
+/// Executes a store.
+#[inline(always)]
+fn execute_store(
+    core: &mut Core,
+    memory: &mut Banks,
+    table: &mut Table,
+    guard: &Guard<'_>,
+    now: u64,
+    instr: &Instr,
+    shape: &MemShape,
+    value: u128,
+) -> Exit
+    requires lawful { IsLawful instr.now }
+    requires access { IsAccess shape.now }
+    requires need { access_asked (wanted core.old instr.now) ≡ Some shape.now }
+    requires contained { IsContained (is_kept memory.old) table.old guard.now }
+    ensures kept { is_kept memory.new ≡ is_kept memory.old }
+    ensures entries { table.new ≡ table.old }
+    ensures end { record { core = core.new; bytes = byte_at memory.new; exit = result }
+        ≡ carried_out
+        (checked core.old instr.now shape.now (store_effect core.old now instr.now shape.now value
+        ((guarded core.old table.old guard.now (byte_at memory.old)).storable shape.now.at (bytes_of shape.now))))
+        (byte_at memory.old) }
+{
+    if is_stopped(core, shape) {
+        return stop(core, instr, shape);
+    }
+    take_store(core, memory, table, guard, now, instr, shape, value)
+}
+
+/// Takes a store whose SP and start were checked.
+#[inline(always)]
+fn take_store(
+    core: &mut Core,
+    memory: &mut Banks,
+    table: &mut Table,
+    guard: &Guard<'_>,
+    now: u64,
+    instr: &Instr,
+    shape: &MemShape,
+    value: u128,
+) -> Exit
+    requires lawful { IsLawful instr.now }
+    requires access { IsAccess shape.now }
+    requires need { access_asked (wanted core.old instr.now) ≡ Some shape.now }
+    requires contained { IsContained (is_kept memory.old) table.old guard.now }
+    ensures kept { is_kept memory.new ≡ is_kept memory.old }
+    ensures entries { table.new ≡ table.old }
+    ensures end { record { core = core.new; bytes = byte_at memory.new; exit = result }
+        ≡ carried_out
+        (store_effect core.old now instr.now shape.now value
+        ((guarded core.old table.old guard.now (byte_at memory.old)).storable shape.now.at (bytes_of shape.now)))
+        (byte_at memory.old) }
+{
+    match store(core, memory, table, guard, shape, value) {
+        Judged::Memory(_) => finish_access(core, now, instr, shape, 0),
+        Judged::Port => reach_port(core, instr, shape),
+        Judged::Refused(fault) => refuse_data(core, instr, fault),
+    }
+}
+
+/// Leaves an exception to EL2 that is no abort, with PC behind the instruction or at it.
+fn leave(core: &mut Core, esr: u64, behind: bool) -> Exit
+    ensures core { core.new ≡ (if behind then advanced core.old else core.old) }
+    ensures exit { result ≡ Exit.Sync esr 0 }
+{
+    if behind {
+        core.pc = core.pc.wrapping_add(4);
+    }
+    Exit::Sync { esr, far: 0 }
 }
 
 /// Completes an instruction that asked for nothing. None that is built ends an interrupt.
@@ -72,6 +218,7 @@ fn finish(core: &mut Core, now: u64, instr: &Instr) -> Exit
 }
 
 /// Completes an instruction whose access was carried out.
+#[inline(always)]
 fn finish_access(core: &mut Core, now: u64, instr: &Instr, shape: &MemShape, got: u128) -> Exit
     requires lawful { IsLawful instr.now }
     requires need { access_asked (wanted core.old instr.now) ≡ Some shape.now }
@@ -80,55 +227,4 @@ fn finish_access(core: &mut Core, now: u64, instr: &Instr, shape: &MemShape, got
 {
     complete_access(core, now, instr, shape, got);
     Exit::Ran
-}
-
-/// The word at `pc`, where it may be fetched.
-fn fetch(memory: &Banks, guard: &Guard<'_>, pc: u64) -> Option<u32>
-    ensures { result ≡ (guarded guard.now (byte_at memory.now)).fetched pc }
-{
-    if pc % 4 == 0 && guard.reaches_all(Access::Exec, pc, 4) {
-        Some(number_at(memory, pc, 4) as u32)
-    } else {
-        None
-    }
-}
-
-/// The bytes of an access, where all of them may be read.
-fn load(memory: &Banks, guard: &Guard<'_>, shape: &MemShape) -> Option<u128>
-    requires { IsAccess shape.now }
-    ensures { result ≡ (guarded guard.now (byte_at memory.now)).loaded shape.now.at (bytes_of shape.now) }
-{
-    let count = byte_count(shape);
-    if guard.reaches_all(Access::Read, shape.at, count) {
-        Some(number_at(memory, shape.at, count))
-    } else {
-        None
-    }
-}
-
-/// Stores the bytes of an access, where all of them may be written. Where not, none is.
-fn store(memory: &mut Banks, guard: &Guard<'_>, shape: &MemShape, value: u128) -> bool
-    requires access { IsAccess shape.now }
-    requires contained { IsContained (is_kept memory.old) guard.now }
-    ensures kept { is_kept memory.new ≡ is_kept memory.old }
-    ensures stored { result ≡ (guarded guard.now (byte_at memory.old)).can_store shape.now.at (bytes_of shape.now) }
-    ensures bytes { byte_at memory.new ≡ (if result
-        then written (stores_from shape.now.at (bytes_of shape.now) value) (byte_at memory.old)
-        else byte_at memory.old) }
-{
-    let count = byte_count(shape);
-    if !guard.reaches_all(Access::Write, shape.at, count) {
-        return false;
-    }
-    store_number(memory, shape.at, count, value);
-    true
-}
-
-/// The bytes of an access.
-fn byte_count(shape: &MemShape) -> u32
-    requires { IsAccess shape.now }
-    ensures value { result ≡ bytes_of shape.now }
-    ensures bound { result ≤ 16 }
-{
-    shape.width * u32::from(shape.count)
 }

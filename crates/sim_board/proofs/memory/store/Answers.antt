@@ -1,30 +1,31 @@
-use Rattle.std.proofs.Common.{◌+◌, ◌-◌, ◌/◌, ◌%◌, ◌^◌, ◌<◌, sym, ap, subst, ◌∙◌, arith}
+use Rattle.std.proofs.Common.{◌≡◌, ◌+◌, ◌/◌, ◌%◌, ◌^◌, ◌≤◌, sym, ap, subst, ◌∙◌, arith}
 use Rattle.std.specs.Prelude.{IsTrue}
-use Rattle.board.specs.Attempt.{all_from, stores_from}
+use Rattle.board.specs.Judge.{all_from}
+use Rattle.board.specs.Attempt.{stores_from}
 use Rattle.board.specs.Machine.{written}
 use Rattle.phys_bank.specs.Banks.{byte_at, is_kept}
-use Rattle.sim_board.proofs.Access.{all_from-first, stores_from-more}
+use Rattle.sim_board.proofs.Halves.{second_part, stores_low, stores_split}
 use Rattle.sim_board.proofs.memory.store.Goals as goal
 
-pub set-requires : goal.set-requires
-set-requires c =
-    let k = c.loop-k.k in let n = c.args.count in
-    let more : k < n = omega (arith, c.loop-k-test.true, c.from-k-end.ensures) in
-    (all_from-first (is_kept c.loop-k.memory) c.args.at k n more c.loop-k.invariant.within).0
+pub store_word-requires-then-count-eq16-clause-used : goal.store_word-requires-then-count-eq16-clause-used
+store_word-requires-then-count-eq16-clause-used c =
+    let at = c.args.at in
+    let sixteen : c.args.count ≡ 8 + 8 = omega (arith, c.if-count-eq16.true) in
+    subst (λ kept. IsTrue (all_from kept ((at + 8) % 2 ^ 64) 8)) (sym c.store_word.ensures.kept)
+    (second_part (is_kept c.args.memory.now) 8 8 c.args.count at sixteen (omega arith) c.requires.used)
 
-pub loop-k-preserved : goal.loop-k-preserved
-loop-k-preserved c =
-    let k = c.loop-k.k in let n = c.args.count in let i = c.loop-k.invariant in let rest = c.loop-k.rest in
-    let at = (c.args.at + k) % 2 ^ 64 in let memory = c.loop-k.memory in
-    let more : k < n = omega (arith, c.loop-k-test.true, c.from-k-end.ensures) in
-    let held = all_from-first (is_kept memory) c.args.at k n more i.within in
-    record {
-      kept = c.set.ensures.kept ∙ i.kept;
-      within =
-          subst (λ r. IsTrue (all_from r ((c.args.at + (k + 1)) % 2 ^ 64) (n - (k + 1)))) (sym c.set.ensures.kept)
-          held.1;
-      bytes =
-          ap (λ m. written (stores_from ((c.args.at + (k + 1)) % 2 ^ 64) (n - (k + 1)) (rest / 256)) m) c.set.ensures.bytes
-          ∙ sym (ap (λ s. written s (byte_at memory)) (stores_from-more c.args.at k n rest more))
-          ∙ i.bytes;
-    }
+pub returns-then-count-eq16-clause-bytes : goal.returns-then-count-eq16-clause-bytes
+returns-then-count-eq16-clause-bytes c =
+    let at = c.args.at in let value = c.args.value in let old = byte_at c.args.memory.now in
+    let sixteen : c.args.count ≡ 8 + 8 = omega (arith, c.if-count-eq16.true) in
+    let low : 8 ≤ 8 = omega arith in
+    c.store_word-then-count-eq16.ensures.bytes
+    ∙ ap (written (stores_from ((at + 8) % 2 ^ 64) 8 (value / 2 ^ 64)))
+    (c.store_word.ensures.bytes ∙ ap (λ stores. written stores old) (stores_low at 8 value 8 low))
+    ∙ sym (stores_split 8 8 c.args.count at value old sixteen (omega arith))
+
+pub returns-else-count-eq16-clause-bytes : goal.returns-else-count-eq16-clause-bytes
+returns-else-count-eq16-clause-bytes c =
+    let low : c.args.count ≤ 8 = omega (arith, c.requires.count, c.if-count-eq16.false) in
+    c.store_word-else-count-eq16.ensures.bytes
+    ∙ ap (λ stores. written stores (byte_at c.args.memory.now)) (stores_low c.args.at c.args.count c.args.value 8 low)

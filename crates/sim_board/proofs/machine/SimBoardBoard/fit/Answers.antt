@@ -4,7 +4,6 @@ use Rattle.std.specs.List.{list_any}
 use Rattle.bao_types.specs.declared.range.ByteRange.{ByteRange}
 use Rattle.bao_types.specs.ByteRange.{is_in_one, lies_in}
 use Rattle.std.proofs.lemmas.List.{length-map}
-use Rattle.std.proofs.lemmas.Simd.{map-map}
 use Rattle.bao_types.specs.Shape.{shape_data}
 use Rattle.a64_state.specs.Registers.{reset_core}
 use Rattle.bao_types.specs.Region.{no_region}
@@ -21,17 +20,14 @@ returns-clause-ok c =
     let bytes : byte_at c.in_ok-memory.memory ≡ (λ at. 0) = search rules in
     let cores : c.in_ok-cores.cores.items ≡ map (λ place. reset_core place.affinity) c.args.shape.now.cores.items =
     search rules in
-    let listed : c.in_ok-entries.entries.items
-    ≡ map (λ place. record { items = replicate place.entries no_region }) c.args.shape.now.cores.items = search rules in
-    fresh_from _ _ _ _ _ _ _ _ shape bytes cores (ap (map (λ e. e.items)) listed ∙ map-map _ _ _)
+    let tables : c.in_ok-tables.tables.items ≡ map (λ place. replicate place.entries no_region) c.args.shape.now.cores.items =
+    search rules in
+    fresh_from _ _ _ _ _ _ _ _ shape bytes cores tables
 
-pub invariant_of-t-40 : goal.invariant_of-t-40
-invariant_of-t-40 c =
-    let listed : c.in_ok-entries.entries.items
-    ≡ map (λ place. record { items = replicate place.entries no_region }) c.args.shape.now.cores.items = search rules in
-    let lists : map (λ e. e.items) c.in_ok-entries.entries.items
-    ≡ map (λ place. replicate place.entries no_region) c.args.shape.now.cores.items =
-    ap (map (λ e. e.items)) listed ∙ map-map _ _ _ in
+pub invariant_of-t-42 : goal.invariant_of-t-42
+invariant_of-t-42 c =
+    let lists : c.in_ok-tables.tables.items ≡ map (λ place. replicate place.entries no_region) c.args.shape.now.cores.items =
+    search rules in
     let copied : shape_data c.in_ok-copy.copy ≡ shape_data c.args.shape.now = search rules in
     let places : c.in_ok-copy.copy.cores.items ≡ c.args.shape.now.cores.items = ap (λ s. s.cores) copied in
     let reset : c.in_ok-cores.cores.items ≡ map (λ place. reset_core place.affinity) c.args.shape.now.cores.items =
@@ -48,6 +44,7 @@ invariant_of-t-40 c =
         cores = ap length reset ∙ length-map _ _ ∙ sym (ap length places);
         entries_len = ap length lists ∙ length-map _ _ ∙ sym (ap length places);
         confined = subst (All (All (IsConfined (shape_data c.in_ok-copy.copy)))) (sym lists) (zeros_are_confined (shape_data c.in_ok-copy.copy) _);
+        free = search rules;
         within = search rules;
         events = search rules;
       };

@@ -19,6 +19,7 @@ invariant_of-self c =
         cores = self.sound.cores;
         entries_len = self.sound.entries_len;
         confined = self.sound.confined;
+        free = self.sound.free;
         within = self.sound.within;
         events = self.sound.events;
       };

@@ -1,5 +1,4 @@
-use Rattle.std.proofs.Common.{All, ◌<◌, List, [], get_or, set, length, map, sym, subst, ◌∙◌, arith}
-use Rattle.std.proofs.lemmas.List.{length-map}
+use Rattle.std.proofs.Common.{All, ◌<◌, List, [], get_or, set, length, sym, subst, ◌∙◌, arith}
 use Rattle.std.proofs.lemmas.List.Elements.{All-get_or, All-set}
 use Rattle.bao_types.specs.declared.region.Region.{Region}
 use Rattle.bao_types.specs.Shape.{shape_data}
@@ -10,16 +9,13 @@ use Rattle.sim_board.proofs.machine.SimBoardBoard.set_entry.Goals as goal
 pub invariant_of-self : goal.invariant_of-self
 invariant_of-self c =
     let self = c.args.self.now in let core = c.from.result in let index = c.from-2.result in
-    let lists : List (List Region) = map (λ e. e.items) self.entries.items in
-    let low : core < length lists =
-    omega (arith, length-map self.entries.items (λ e. e.items), self.sound.entries_len, c.requires.core, c.from.ensures) in
+    let lists : List (List Region) = self.tables.items in
+    let low : core < length lists = omega (arith, self.sound.entries_len, c.requires.core, c.from.ensures) in
     record {
       sound = record {
         used = self.sound.used;
         cores = self.sound.cores;
-        entries_len =
-            length-map c.set_one.new.entries.items (λ e. e.items) ∙ c.set_one.ensures.len
-            ∙ sym (length-map self.entries.items (λ e. e.items)) ∙ self.sound.entries_len;
+        entries_len = c.set_one.ensures.len ∙ self.sound.entries_len;
         confined =
             subst (All (All (IsConfined (shape_data self.shape)))) (sym c.set_one.ensures.items)
             (All-set (All (IsConfined (shape_data self.shape))) lists core (set (get_or lists core []) index c.args.entry)
@@ -27,6 +23,7 @@ invariant_of-self c =
             (safe_is_confined (shape_data self.shape) c.args.entry c.requires.safe)
             (All-get_or (All (IsConfined (shape_data self.shape))) lists core [] low self.sound.confined))
             self.sound.confined);
+        free = self.sound.free;
         within = self.sound.within;
         events = self.sound.events;
       };
