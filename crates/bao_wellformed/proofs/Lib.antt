@@ -11,3 +11,4 @@ pub mod Once
 pub mod Places
 pub mod Absent
 pub mod Alone
+pub mod Windowed

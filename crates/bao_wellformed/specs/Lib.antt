@@ -7,3 +7,4 @@ pub mod Map
 pub mod Rules
 pub mod Sample
 pub mod WellFormed
+pub mod Windows

@@ -1,4 +1,5 @@
 ghost use Rattle.bao_wellformed.specs.Laws.{AloneWellFormed, MapsApart, CoresApart, CoresOfPlatform, CoresOwned, PortsApart, PlacesOwn, StartsExecutable, MapsGranular, HypervisorAbsent, FramesAbsent, MapsInSpace, HypervisorInSpace, LackingLeast, ClashLeast};
+ghost use Rattle.bao_wellformed.specs.Windows.{WindowsSound};
 
 /// The laws by which VMs are apart: a byte that two of them both have is a window of both on one shared memory, no core
 /// and no port is given to two, and each VM alone makes a well-formed configuration. The function does nothing; its contract is the laws.
@@ -29,4 +30,11 @@ pub fn laws_of_maps()
 pub fn laws_of_least_bytes()
     ensures lacking { LackingLeast }
     ensures clash { ClashLeast }
+{}
+
+/// The laws of windows on shared memories: each names a shared memory, no VM has two on one, and each has an interrupt
+/// number for each event. The function does nothing; its contract is the laws.
+#[tactic(auto, using(crate::proofs::Windowed::windows_sound))]
+pub fn laws_of_windows()
+    ensures { WindowsSound }
 {}

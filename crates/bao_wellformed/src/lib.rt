@@ -22,6 +22,6 @@ mod vm_rules;
 pub use all_rules::check;
 pub use checked::{CheckError, Checked};
 pub use ill::{Ill, NO_RANGE, NONE};
-pub use law::{laws_of_least_bytes, laws_of_maps, laws_of_separation};
+pub use law::{laws_of_least_bytes, laws_of_maps, laws_of_separation, laws_of_windows};
 pub use map::{Kind, MAP_ENTRIES, MapEntry, grant, has_core, kind_in, map_of};
 pub use sample::rows_of_the_sample;
