@@ -6,3 +6,4 @@ pub mod Realised
 pub mod Verdicts
 pub mod OneList
 pub mod Exact
+pub mod Maximal

@@ -16,7 +16,7 @@ bit_itself : (b : Bool) → is_bit b b ≡ true
 bit_itself true = refl
 bit_itself false = refl
 
-class_itself : (class : Class) → is_class class class ≡ true
+pub class_itself : (class : Class) → is_class class class ≡ true
 class_itself Nothing = refl
 class_itself Hyp = refl
 class_itself (Guest write exec port) = rw (bit_itself write, bit_itself exec, bit_itself port) refl
@@ -33,7 +33,7 @@ three true true false e = cc
 three true false c e = cc
 three false b c e = cc
 
-class_same : (one other : Class) → is_class one other ≡ true → one ≡ other
+pub class_same : (one other : Class) → is_class one other ≡ true → one ≡ other
 class_same Nothing Nothing e = refl
 class_same Nothing Hyp e = cc
 class_same Nothing (Guest write exec port) e = cc
@@ -70,13 +70,13 @@ joined own class low size runs same =
 
 module _ (classes : ℕ → Class) where
   -- a run of bytes of one class that ends where that class does; what stands before it isn't said
-  record EndsRight (run : Run) : Type 0 where
-    not_empty : 0 < run.range.size
-    not_nothing : run.class ≢ Nothing
-    equal : (at : ℕ) → IsTrue (is_within run.range at) → classes at ≡ run.class
-    after : classes (end run.range) ≢ run.class
+  pub record EndsRight (run : Run) : Type 0 where
+    pub not_empty : 0 < run.range.size
+    pub not_nothing : run.class ≢ Nothing
+    pub equal : (at : ℕ) → IsTrue (is_within run.range at) → classes at ≡ run.class
+    pub after : classes (end run.range) ≢ run.class
 
-  abbrev Follow : ℕ → List Run → Type 0
+  abbrev pub Follow : ℕ → List Run → Type 0
   Follow low [] = (at : ℕ) → low ≤ at → classes at ≡ Nothing
   Follow low (run ∷ runs) =
       EndsRight run × (low ≤ run.range.base) × ((at : ℕ) → low ≤ at → at < run.range.base → classes at ≡ Nothing)
@@ -92,11 +92,11 @@ module _ (classes : ℕ → Class) where
   )
 
   -- the first byte of a run has its class
-  at_base : (run : Run) → EndsRight run → classes run.range.base ≡ run.class
+  pub at_base : (run : Run) → EndsRight run → classes run.range.base ≡ run.class
   at_base run right =
       let some = right.not_empty in right.equal run.range.base (is_within-between run.range run.range.base (omega arith) (omega arith))
 
-  abbrev Beyond : ℕ → Type 0
+  abbrev pub Beyond : ℕ → Type 0
   Beyond high = (at : ℕ) → high ≤ at → classes at ≡ Nothing
 
   -- no run is left beyond the last byte

@@ -6,12 +6,14 @@ use Rattle.bao_types.specs.declared.access.Access.{Access}
 use Rattle.bao_types.specs.declared.access.Class.{Class}
 use Rattle.bao_types.specs.declared.region.Region.{Region}
 use Rattle.bao_config.specs.Data.{ConfigData}
+use Rattle.bao_config.specs.Fits.{ConfigFits}
 use Rattle.bao_wellformed.specs.Map.{by_map, class_of}
+use Rattle.bao_wellformed.specs.WellFormed.{IsWellFormed}
 use Rattle.pmsa_stage2.specs.Stage2.{stage2}
 use Rattle.region_list.specs.declared.run.Run.{Run}
 use Rattle.region_list.specs.Runs.{AreMaximalRuns}
 use Rattle.mpu_packer.specs.Packing.{Realises, enabled_count}
-use Rattle.mpu_packer.specs.Runs.{all_runs}
+use Rattle.mpu_packer.specs.Runs.{all_runs, packing_of}
 
 -- each access to each byte has the verdict of the map
 abbrev pub GivesTheMap : Type 0
@@ -24,6 +26,11 @@ abbrev pub HasNoFewer : Type 0
 HasNoFewer =
     (class_of : ℕ → Class) (runs : List Run) (entries : List Region) → AreMaximalRuns class_of runs → Realises entries class_of
     → length runs ≤ enabled_count entries
+
+-- the packing of a core, as a function of a configuration that keeps the rules and the key table, realises the core's map
+abbrev pub PackingRealises : Type 0
+PackingRealises =
+    (cfg : ConfigData) (core : ℕ) → IsWellFormed cfg → ConfigFits cfg → Realises (packing_of cfg core) (class_of cfg core)
 
 -- where no byte outside the address space is in a run, there is one list of maximal runs
 abbrev pub HasOneList : Type 0
