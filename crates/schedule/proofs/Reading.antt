@@ -1,6 +1,6 @@
 -- A schedule, line by line.
 use Rattle.std.proofs.Common.{◌≡◌, ℕ, ◌+◌, ◌<◌, ◌≤◌, Bool, true, false, List, [], ◌∷◌, ◌++◌, length, sym, refl, ap, subst, ◌∙◌, arith, length-append, append-nil}
-use Rattle.std.specs.Prelude.{Option, Some, None, All, nat_le, nat_lt, not, if◌then◌else◌, option_to_list, ⊤}
+use Rattle.std.specs.Prelude.{Option, Some, None, nat_le, nat_lt, not, if◌then◌else◌, option_to_list, ⊤}
 use Rattle.std.proofs.lemmas.Bool.{ltb-false}
 use Rattle.std.proofs.lemmas.Bool.Decides.{nat_tests}
 use Rattle.std.proofs.lemmas.List.Elements.{All-nil, All-push}
@@ -8,14 +8,15 @@ use Rattle.bao_types.specs.Shape.{event_limit}
 use Rattle.bao_config.specs.Data.{ConfigData}
 use Rattle.schedule.specs.Parts.{parts, IsWhole, IsCut}
 use Rattle.schedule.specs.Line.{line_of}
-use Rattle.schedule.specs.Rules.{is_core, is_assigned, event_of, broken_rule}
+use Rattle.hypervisor.specs.Event.{IsPlaced, is_core, is_assigned}
+use Rattle.hypervisor.specs.declared.event.Event.{Event}
+use Rattle.hypervisor.specs.declared.event.Event.TheVariants as event
+use Rattle.schedule.specs.Rules.{event_of, broken_rule}
 use Rattle.schedule.specs.Schedule.{Events, Broken, Reached, nothing_yet, count_behind, count_after, with_line, unless_bad, at_end, answer_from, schedule_of}
-use Rattle.schedule.specs.Lawful.{IsPlaced, NeverFall, IsLawful}
+use Rattle.schedule.specs.Lawful.{NeverFall, IsLawful}
 use Rattle.schedule.specs.Answer.{TellsBroken, TakesLine, IsRefused}
 use Rattle.schedule.specs.declared.line.Line.{Line}
 use Rattle.schedule.specs.declared.line.Line.TheVariants.{NoEvent, Step, Input, BadForm}
-use Rattle.schedule.specs.declared.event.Event.{Event}
-use Rattle.schedule.specs.declared.event.Event.TheVariants as event
 use Rattle.schedule.specs.declared.error.ScheduleError.{ScheduleError}
 use Rattle.schedule.specs.declared.error.ScheduleError.TheVariants.{Bad, OutOfMemory}
 use Rattle.schedule.proofs.Cuts.{some_part}

@@ -1,15 +1,10 @@
 -- What each list of events keeps that a schedule gives.
-use Rattle.std.specs.Prelude.{◌≡◌, ℕ, ◌≤◌, true, List, [], ◌∷◌, length, All, ⊤}
+use Rattle.std.specs.Prelude.{ℕ, ◌≤◌, List, [], ◌∷◌, length, All, ⊤}
 use Rattle.bao_types.specs.Shape.{event_limit}
 use Rattle.bao_config.specs.Data.{ConfigData}
-use Rattle.schedule.specs.Rules.{is_core, is_assigned}
-use Rattle.schedule.specs.declared.event.Event.{Event}
-use Rattle.schedule.specs.declared.event.Event.TheVariants.{Step, Input}
-
--- the event is of a core of the platform, or of a port that a VM is given
-abbrev pub IsPlaced : ConfigData → Event → Type 0
-IsPlaced cfg (Step core count) = is_core cfg core ≡ true
-IsPlaced cfg (Input port byte) = is_assigned cfg port ≡ true
+use Rattle.hypervisor.specs.Event.{IsPlaced}
+use Rattle.hypervisor.specs.declared.event.Event.{Event}
+use Rattle.hypervisor.specs.declared.event.Event.TheVariants.{Step, Input}
 
 -- the counts of the steps, of all cores together, don't fall, and the first isn't below this one
 abbrev pub NeverFall : ℕ → List Event → Type 0

@@ -1,21 +1,12 @@
 -- The rules that a line is judged by, one test each.
-use Rattle.std.specs.Prelude.{ℕ, nat_le, nat_lt, not, Bool, true, false, if◌then◌else◌, [], length, Option, None, Some, Result, Ok, Err}
-use Rattle.std.specs.List.{list_any}
+use Rattle.std.specs.Prelude.{ℕ, nat_le, nat_lt, not, Bool, true, false, if◌then◌else◌, Option, None, Some, Result, Ok, Err}
 use Rattle.bao_types.specs.Shape.{event_limit}
 use Rattle.bao_config.specs.Data.{ConfigData}
-use Rattle.bao_wellformed.specs.Map.{has_port}
+use Rattle.hypervisor.specs.Event.{is_core, is_assigned}
+use Rattle.hypervisor.specs.declared.event.Event.{Event}
+use Rattle.hypervisor.specs.declared.event.Event.TheVariants as event
 use Rattle.schedule.specs.declared.line.Line.{Line}
 use Rattle.schedule.specs.declared.line.Line.TheVariants.{NoEvent, Step, Input, BadForm}
-use Rattle.schedule.specs.declared.event.Event.{Event}
-use Rattle.schedule.specs.declared.event.Event.TheVariants as event
-
--- the platform has this core
-abbrev pub is_core : ConfigData → ℕ → Bool
-is_core cfg core = nat_lt core (length cfg.platform.cores)
-
--- a VM is given this port
-abbrev pub is_assigned : ConfigData → ℕ → Bool
-is_assigned cfg port = list_any (has_port port) cfg.vms
 
 -- 1: it is of no form
 abbrev pub has_bad_form : Line → Bool

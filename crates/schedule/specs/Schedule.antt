@@ -5,8 +5,8 @@ use Rattle.schedule.specs.Parts.{parts}
 use Rattle.schedule.specs.Line.{line_of}
 use Rattle.schedule.specs.Rules.{event_of, broken_rule}
 use Rattle.schedule.specs.declared.line.Line.{Line}
-use Rattle.schedule.specs.declared.event.Event.{Event}
-use Rattle.schedule.specs.declared.event.Event.TheVariants.{Step, Input}
+use Rattle.hypervisor.specs.declared.event.Event.{Event}
+use Rattle.hypervisor.specs.declared.event.Event.TheVariants.{Step, Input}
 
 -- the events, or the number of the first line that breaks a rule, with the first rule that it breaks
 pub data ScheduleAnswer : Type 0 where

@@ -1,12 +1,11 @@
 //! A schedule: which core takes a step, and which port is given a byte, in their order.
 //!
 //! The whole form of a schedule file is read here, in one pass over its bytes, and judged by a well-formed configuration.
-//! What an event does to a machine is said in the crates above.
+//! What an event does to a machine is said in `hypervisor`.
 #![tactic(auto)]
 
 mod cut;
 mod error;
-mod event;
 mod law;
 mod line;
 mod number;
@@ -17,6 +16,5 @@ mod read;
 mod tests;
 
 pub use error::ScheduleError;
-pub use event::Event;
 pub use law::laws_of_lines;
 pub use read::read_schedule;

@@ -3,7 +3,8 @@ ghost use Rattle.std.specs.Prelude.{◌≡◌};
 ghost use Rattle.bao_config.specs.Config.{config_data};
 ghost use Rattle.bao_config.specs.Data.{vm_data};
 ghost use Rattle.bao_wellformed.specs.Map.{has_port};
-ghost use Rattle.schedule.specs.Rules.{is_core, is_assigned, if_so};
+ghost use Rattle.hypervisor.specs.Event.{is_core, is_assigned};
+ghost use Rattle.schedule.specs.Rules.{if_so};
 
 use bao_config::{Config, Vm};
 

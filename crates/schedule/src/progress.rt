@@ -7,11 +7,11 @@ ghost use Rattle.schedule.specs.Schedule.{count_behind};
 ghost use Rattle.bao_types.specs.Shape.{event_limit};
 
 use crate::error::ScheduleError;
-use crate::event::Event;
 use crate::line::Line;
 use crate::places::{core_of, port_of};
 use bao_config::Config;
 use bao_types::EVENT_LIMIT;
+use hypervisor::Event;
 
 /// How far a schedule has been read.
 #[derive(Drop)]

@@ -7,10 +7,10 @@ ghost use Rattle.schedule.specs.Answer.{TellsBroken};
 
 use crate::cut::cut_at;
 use crate::error::ScheduleError;
-use crate::event::Event;
 use crate::line::read_line;
 use crate::progress::Progress;
 use bao_wellformed::Checked;
+use hypervisor::Event;
 use std::alloc::Global;
 
 /// Reads the bytes of a schedule: lines that are each ended by LF.

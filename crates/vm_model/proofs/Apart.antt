@@ -7,7 +7,7 @@ use Rattle.bao_config.specs.Data.{VmData}
 use Rattle.bao_types.specs.ByteRange.{is_within}
 use Rattle.bao_wellformed.specs.Map.{is_platform_port, has_core, has_port}
 use Rattle.bao_wellformed.specs.Map.{by_map}
-use Rattle.board.specs.Attempt.{reaches}
+use Rattle.board.specs.Judge.{reaches}
 use Rattle.vm_model.specs.Lone.{is_core_of, is_in_window}
 use Rattle.vm_model.specs.Agree.{IsInMap}
 use Rattle.vm_model.specs.Apart.{IsApart}

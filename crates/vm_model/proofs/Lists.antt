@@ -81,6 +81,29 @@ module _ {A : Type 0} (xs ys : List A) (i j : ℕ) (y d : A) (long : length xs �
           let lx : length xs ≤ i = grind (arith, nat_tests) in let ly : length ys ≤ i = omega (arith, lx, long) in
           ap (λ zs. get_or zs j d) (set_past xs i y lx) ∙ same ∙ sym (ap (λ zs. get_or zs j d) (set_past ys i y ly))
 
+-- what stands at a place after the same write to two lists that are equal there and at the place that is written
+pub set_get_alike : {A : Type 0} (xs ys : List A) (i j : ℕ) (y : A) → slice_get xs i ≡ slice_get ys i
+    → slice_get xs j ≡ slice_get ys j → slice_get (set xs i y) j ≡ slice_get (set ys i y) j
+set_get_alike [] [] i j y here there = refl
+set_get_alike [] (b ∷ bs) zero j y here there = cc
+set_get_alike [] (b ∷ bs) (suc i) zero y here there = cc
+set_get_alike [] (b ∷ bs) (suc i) (suc j) y here there = set_get_alike [] bs i j y here there
+set_get_alike (a ∷ xs) [] zero j y here there = cc
+set_get_alike (a ∷ xs) [] (suc i) zero y here there = cc
+set_get_alike (a ∷ xs) [] (suc i) (suc j) y here there = set_get_alike xs [] i j y here there
+set_get_alike (a ∷ xs) (b ∷ bs) zero zero y here there = refl
+set_get_alike (a ∷ xs) (b ∷ bs) zero (suc j) y here there = there
+set_get_alike (a ∷ xs) (b ∷ bs) (suc i) zero y here there = there
+set_get_alike (a ∷ xs) (b ∷ bs) (suc i) (suc j) y here there = set_get_alike xs bs i j y here there
+
+-- and at another place
+pub set_get_other : {A : Type 0} (xs : List A) (i j : ℕ) (y : A) → j ≢ i → slice_get (set xs i y) j ≡ slice_get xs j
+set_get_other [] i j y other = refl
+set_get_other (x ∷ xs) zero zero y other = absurd (other refl)
+set_get_other (x ∷ xs) zero (suc j) y other = refl
+set_get_other (x ∷ xs) (suc i) zero y other = refl
+set_get_other (x ∷ xs) (suc i) (suc j) y other = set_get_other xs i j y (λ same. other (ap suc same))
+
 -- what is made of each place of a list
 module _ {Y : Type 0} (f g : ℕ → Y) where
   here : (n : ℕ) → f (n + 0) ≡ g (n + 0) → f n ≡ g n

@@ -1,6 +1,6 @@
 -- A step of a core of the VM does the same in both.
-use Rattle.std.proofs.Common.{◌≡◌, ℕ, Bool, true, false, [], ◌∷◌, length-set, refl, sym, ap, subst, ◌∙◌, inl, inr}
-use Rattle.std.specs.Prelude.{IsTrue, ◌&&◌, ◌⊎◌, if◌then◌else◌, Some, is_some, slice_get, slice_set}
+use Rattle.std.proofs.Common.{◌≡◌, ℕ, Bool, true, false, List, [], ◌∷◌, length-set, refl, sym, ap, subst, ◌∙◌, inl, inr}
+use Rattle.std.specs.Prelude.{IsTrue, ◌&&◌, ◌⊎◌, ◌%◌, ◌==◌, not, if◌then◌else◌, Some, is_some, slice_get, slice_set}
 use Rattle.bao_types.specs.declared.access.Access.{Access}
 use Rattle.bao_types.specs.declared.access.Access.TheVariants.{Read, Write, Exec}
 use Rattle.bao_types.specs.declared.access.Class.TheVariants.{Hyp}
@@ -11,13 +11,19 @@ use Rattle.bao_wellformed.specs.declared.map.Kind.{Kind}
 use Rattle.bao_wellformed.specs.declared.map.Kind.TheVariants.{Ram, Port, Window, Hole}
 use Rattle.bao_wellformed.specs.Map.{is_platform_port, kind_at, grant, guest_class, has_core, owner}
 use Rattle.bao_wellformed.specs.Map.{verdict_of, by_map}
-use Rattle.board.specs.Attempt.{is_allowed, reaches, reach_of, attempt, core_of, stored_of}
+use Rattle.board.specs.Stage.{Stage, both, by_regions, is_allowed}
+use Rattle.board.specs.Judge.{reaches, reach_of}
+use Rattle.board.specs.Attempt.{Outcome, Ran, Leave, Unbuilt, attempt}
 use Rattle.board.specs.Machine.{core_at, written}
-use Rattle.vm_model.specs.Flat.{Flat, Step, is_on, runs, flat_reach, flat_attempt, flat_stepped, flat_step}
+use Rattle.vm_model.specs.Flat.{Flat, Step, is_on, runs, flat_reach, flat_attempt, powers_after, flat_stepped, flat_step}
+use Rattle.vm_model.specs.Park.{is_abort, is_of_class, is_described, width_of, is_in_frame, parks}
 use Rattle.vm_model.specs.Lone.{is_core_of}
-use Rattle.board.proofs.Reached.{observes_nothing_else}
+use Rattle.board.proofs.Reached.{observes_nothing_else, reached_by_second}
 use Rattle.vm_model.specs.Agree.{is_present, IsInMap, Agree}
-use Rattle.vm_model.proofs.Lists.{first_by_place, set_alike}
+use Rattle.exceptions.specs.declared.class.Class.TheVariants.{DataAbortLower}
+use Rattle.hypercalls.specs.declared.power.Power.{Power}
+use Rattle.hypercalls.specs.declared.power.Power.TheVariants.{Parked}
+use Rattle.vm_model.proofs.Lists.{first_by_place, set_alike, set_get_alike}
 use Rattle.vm_model.proofs.Stores.{written_alike}
 
 -- the configuration with one VM
@@ -64,11 +70,35 @@ module _ (cfg : ConfigData) (v : ℕ) (vm : VmData) (place : slice_get cfg.vms v
   reached_in_map Write at h = allowed_in_map Write at (first_of _ _ h)
   reached_in_map Exec at h = allowed_in_map Exec at h
 
-  seen_in_map : (at : ℕ)
-      → IsTrue (reaches (by_map cfg core) (is_platform_port cfg) Read at) ⊎ IsTrue (reaches (by_map cfg core) (is_platform_port cfg) Exec at)
+  -- what both stages let the core read or execute
+  seen_in_map : (one : Stage) (at : ℕ)
+      → IsTrue (reaches (both one (by_map cfg core)) (is_platform_port cfg) Read at)
+      ⊎ IsTrue (reaches (both one (by_map cfg core)) (is_platform_port cfg) Exec at)
       → IsInMap cfg vm at
-  seen_in_map at (inl h) = reached_in_map Read at h
-  seen_in_map at (inr h) = reached_in_map Exec at h
+  seen_in_map one at (inl h) = reached_in_map Read at (reached_by_second one (by_map cfg core) (is_platform_port cfg) Read at h)
+  seen_in_map one at (inr h) = reached_in_map Exec at (reached_by_second one (by_map cfg core) (is_platform_port cfg) Exec at h)
+
+  -- an exception parks the core in both
+  parks_alike : (esr far : ℕ) → parks cfg core esr far ≡ parks (single cfg vm) core esr far
+  parks_alike esr far =
+      ap (λ o. is_abort esr
+      && not (is_of_class DataAbortLower esr && is_described esr && (far % width_of esr == 0) && is_in_frame cfg o far))
+      (owned.0 ∙ sym owned_alone)
+
+  powers_alike : (outcome : Outcome) (ps qs : List Power) (c : ℕ) → slice_get ps core ≡ slice_get qs core
+      → slice_get ps c ≡ slice_get qs c
+      → slice_get (powers_after cfg core outcome ps) c ≡ slice_get (powers_after (single cfg vm) core outcome qs) c
+  powers_alike Ran ps qs c here there = there
+  powers_alike (Leave esr far) ps qs c here there =
+      by_park (parks cfg core esr far)
+      ∙ ap (λ p. slice_get (if p then slice_set qs core (Parked esr far) else qs) c) (parks_alike esr far)
+    where
+      by_park : (p : Bool)
+          → slice_get (if p then slice_set ps core (Parked esr far) else ps) c
+          ≡ slice_get (if p then slice_set qs core (Parked esr far) else qs) c
+      by_park true = set_get_alike ps qs core c (Parked esr far) here there
+      by_park false = there
+  powers_alike Unbuilt ps qs c here there = there
 
   module _ (f g : Flat) (agree : Agree cfg vm f g) (now : ℕ) where
     runs_alike : runs cfg f core ≡ runs (single cfg vm) g core
@@ -78,27 +108,31 @@ module _ (cfg : ConfigData) (v : ℕ) (vm : VmData) (place : slice_get cfg.vms v
 
     attempt_alike : flat_attempt cfg f core now ≡ flat_attempt (single cfg vm) g core now
     attempt_alike =
-        ap (λ c. attempt (flat_reach cfg f core) c now) (agree.cores core owned.1)
-        ∙ observes_nothing_else (by_map cfg core) (is_platform_port cfg) f.bytes g.bytes (core_at g.cores core) now
-        (λ at h. agree.bytes at (seen_in_map at h))
-        ∙ ap (λ stage2. attempt (reach_of stage2 (is_platform_port cfg) g.bytes) (core_at g.cores core) now) map_alike
+        ap (λ c. attempt (reach_of (by_regions c) (by_map cfg core) (is_platform_port cfg) f.bytes) c now) (agree.cores core owned.1)
+        ∙ observes_nothing_else (by_regions (core_at g.cores core)) (by_map cfg core) (is_platform_port cfg) f.bytes g.bytes
+        (core_at g.cores core) now (λ at h. agree.bytes at (seen_in_map (by_regions (core_at g.cores core)) at h))
+        ∙ ap (λ two.
+        attempt (reach_of (by_regions (core_at g.cores core)) two (is_platform_port cfg) g.bytes) (core_at g.cores core) now)
+        map_alike
 
     stepped_alike : Agree cfg vm (flat_stepped cfg f core now) (flat_stepped (single cfg vm) g core now)
     stepped_alike =
-        let a = attempt_alike in let here = agree.cores core owned.1 in
+        let a = attempt_alike in
         record {
           bytes = λ at in_map.
-              written_alike (stored_of (flat_attempt cfg f core now)) f.bytes g.bytes at (agree.bytes at in_map)
-              ∙ ap (λ e. written (stored_of e) g.bytes at) a;
+              written_alike (flat_attempt cfg f core now).stored f.bytes g.bytes at (agree.bytes at in_map)
+              ∙ ap (λ e. written e.stored g.bytes at) a;
           cores = λ c has.
-              set_alike f.cores g.cores core c (core_of (core_at f.cores core) (flat_attempt cfg f core now)) (reset_core 0)
-              agree.core_count (agree.cores c has)
-              ∙ ap (λ e. core_at (slice_set g.cores core (core_of (core_at f.cores core) e)) c) a
-              ∙ ap (λ x. core_at (slice_set g.cores core (core_of x (flat_attempt (single cfg vm) g core now))) c) here;
-          powers = agree.powers;
+              set_alike f.cores g.cores core c (flat_attempt cfg f core now).core (reset_core 0) agree.core_count
+              (agree.cores c has)
+              ∙ ap (λ e. core_at (slice_set g.cores core e.core) c) a;
+          powers = λ c has.
+              powers_alike (flat_attempt cfg f core now).outcome f.powers g.powers c (agree.powers core owned.1)
+              (agree.powers c has)
+              ∙ ap (λ e. slice_get (powers_after (single cfg vm) core e.outcome g.powers) c) a;
           core_count =
-              length-set f.cores core (core_of (core_at f.cores core) (flat_attempt cfg f core now)) ∙ agree.core_count
-              ∙ sym (length-set g.cores core (core_of (core_at g.cores core) (flat_attempt (single cfg vm) g core now)));
+              length-set f.cores core (flat_attempt cfg f core now).core ∙ agree.core_count
+              ∙ sym (length-set g.cores core (flat_attempt (single cfg vm) g core now).core);
           consoles = agree.consoles;
         }
 

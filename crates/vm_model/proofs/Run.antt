@@ -2,12 +2,12 @@
 use Rattle.std.proofs.Common.{◌≡◌, ℕ, suc, Bool, true, false, List, [], ◌∷◌, ◌++◌, All, refl, sym, ap, subst, arith}
 use Rattle.std.specs.Prelude.{if◌then◌else◌, Some, slice_get, option_to_list}
 use Rattle.bao_config.specs.Data.{ConfigData, VmData}
-use Rattle.vm_model.specs.Flat.{Flat, FlatEvent, Step, Wrote, flat_step, flat_run}
+use Rattle.vm_model.specs.Flat.{Flat, FlatEvent, Step, Input, Wrote, flat_step, flat_run}
 use Rattle.vm_model.specs.Boot.{boot}
-use Rattle.vm_model.specs.Lone.{only, is_core_of, emitted, seen, view}
+use Rattle.vm_model.specs.Lone.{only, is_core_of, is_dev_of, emitted, seen, view}
 use Rattle.vm_model.specs.Agree.{Agree}
 use Rattle.vm_model.specs.Apart.{IsApart}
-use Rattle.vm_model.specs.Alone.{OwnStepsAgree, OtherStepsAgree, IsStep, RunsAsIfAlone}
+use Rattle.vm_model.specs.Alone.{OwnStepsAgree, OtherStepsAgree, IsOfSchedule, RunsAsIfAlone}
 use Rattle.vm_model.proofs.Own.{single, own_step}
 use Rattle.vm_model.proofs.Strangers.{stranger_step}
 use Rattle.vm_model.proofs.Boot.{boots_alike}
@@ -36,12 +36,20 @@ module _ (cfg : ConfigData) (images : List (List ℕ)) (v : ℕ) (vm : VmData) (
   by_core core now f g agree true own = own_step cfg v vm apart.place core own f g agree now
   by_core core now f g agree false own = stranger_step cfg (single cfg vm) images v vm apart core now own f g agree
 
-  one_event : (event : FlatEvent) → IsStep event → (f g : Flat) → Agree cfg vm f g
+  -- an input changes nothing, whoever has the port
+  by_port : (port byte : ℕ) (f g : Flat) → Agree cfg vm f g → (own : Bool)
+      → Agree cfg vm (flat_step cfg f (Input port byte))
+      (flat_run (single cfg vm) g (if own then Input port byte ∷ [] else emitted cfg f v (Input port byte)))
+  by_port port byte f g agree true = agree
+  by_port port byte f g agree false = agree
+
+  one_event : (event : FlatEvent) → IsOfSchedule event → (f g : Flat) → Agree cfg vm f g
       → Agree cfg vm (flat_step cfg f event) (flat_run (single cfg vm) g (seen cfg f v event))
   one_event (Step core now) step f g agree = by_core core now f g agree (is_core_of cfg v core) refl
+  one_event (Input port byte) step f g agree = by_port port byte f g agree (is_dev_of cfg v port)
   one_event (Wrote stores) step f g agree = absurd step
 
-  whole_run : (events : List FlatEvent) → All IsStep events → (f g : Flat) → Agree cfg vm f g
+  whole_run : (events : List FlatEvent) → All IsOfSchedule events → (f g : Flat) → Agree cfg vm f g
       → Agree cfg vm (flat_run cfg f events) (flat_run (single cfg vm) g (view cfg f v events))
   whole_run [] steps f g agree = agree
   whole_run (event ∷ events) steps f g agree =

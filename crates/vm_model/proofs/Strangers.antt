@@ -1,19 +1,25 @@
 -- A step of a core of another VM, and what it brings into the VM's own run.
 use Rattle.std.proofs.Common.{◌≡◌, ◌≢◌, ℕ, Bool, true, false, List, [], ◌∷◌, length-set, refl, sym, ap, subst, ◌∙◌}
-use Rattle.std.specs.Prelude.{IsTrue, IsFalse, if◌then◌else◌, filter, slice_get}
+use Rattle.std.specs.Prelude.{IsTrue, IsFalse, if◌then◌else◌, filter, slice_get, slice_set}
 use Rattle.std.proofs.lemmas.List.{get_or-set_other}
 use Rattle.bao_types.specs.declared.access.Access.TheVariants.{Write}
 use Rattle.a64_state.specs.Registers.{reset_core}
 use Rattle.bao_config.specs.Data.{ConfigData, VmData}
 use Rattle.bao_wellformed.specs.Map.{is_platform_port, has_core}
 use Rattle.bao_wellformed.specs.Map.{by_map}
-use Rattle.board.specs.Attempt.{reaches, core_of}
+use Rattle.board.specs.Stage.{by_regions}
+use Rattle.board.specs.Judge.{reaches}
+use Rattle.board.specs.Attempt.{Outcome, Ran, Leave, Unbuilt}
 use Rattle.board.specs.Machine.{core_at, written}
-use Rattle.vm_model.specs.Flat.{Flat, Step, runs, flat_attempt, flat_stepped, flat_step, flat_run}
+use Rattle.vm_model.specs.Flat.{Flat, Step, runs, flat_attempt, powers_after, flat_stepped, flat_step, flat_run}
+use Rattle.vm_model.specs.Park.{parks}
+use Rattle.hypercalls.specs.declared.power.Power.{Power}
+use Rattle.hypercalls.specs.declared.power.Power.TheVariants.{Parked}
 use Rattle.vm_model.specs.Lone.{is_core_of, is_in_window, as_event, stored, emitted}
 use Rattle.vm_model.specs.Agree.{IsInMap, Agree}
 use Rattle.vm_model.specs.Apart.{IsApart}
-use Rattle.board.proofs.Reached.{stored_where_it_may}
+use Rattle.board.proofs.Reached.{stored_by_second}
+use Rattle.vm_model.proofs.Lists.{set_get_other}
 use Rattle.vm_model.proofs.Stores.{kept_alike}
 
 -- writes that are an event, or none
@@ -34,6 +40,16 @@ module _ (cfg lone_cfg : ConfigData) (images : List (List ℕ)) (v : ℕ) (vm : 
   other_core c has same =
       let clash : true ≡ false = sym (apart.cores c has) ∙ ap (is_core_of cfg v) same ∙ stranger in cc
 
+  power_alike : (outcome : Outcome) (powers : List Power) (c : ℕ) → c ≢ core
+      → slice_get (powers_after cfg core outcome powers) c ≡ slice_get powers c
+  power_alike Ran powers c other = refl
+  power_alike (Leave esr far) powers c other = by_park (parks cfg core esr far)
+    where
+      by_park : (p : Bool) → slice_get (if p then slice_set powers core (Parked esr far) else powers) c ≡ slice_get powers c
+      by_park true = set_get_other powers core c (Parked esr far) other
+      by_park false = refl
+  power_alike Unbuilt powers c other = refl
+
   byte_alike : (at : ℕ) → IsInMap cfg vm at → written (stored cfg f core now) f.bytes at ≡ written seen_stores g.bytes at
   unfolding seen_stores
   byte_alike at in_map =
@@ -42,18 +58,19 @@ module _ (cfg lone_cfg : ConfigData) (images : List (List ℕ)) (v : ℕ) (vm : 
       ap (λ o. is_in_window cfg o place) apart.place
       ∙ apart.stores core place stranger may (subst (IsInMap cfg vm) here in_map))
       (stored cfg f core now) f.bytes g.bytes
-      (stored_where_it_may (by_map cfg core) (is_platform_port cfg) f.bytes (core_at f.cores core) now)
+      (stored_by_second (by_regions (core_at f.cores core)) (by_map cfg core) (is_platform_port cfg) f.bytes (core_at f.cores core) now)
       (agree.bytes at in_map)
 
   stepped_alike : Agree cfg vm (flat_stepped cfg f core now) (record g { bytes = written seen_stores g.bytes })
   stepped_alike = record {
     bytes = byte_alike;
     cores = λ c has.
-        get_or-set_other f.cores core c (core_of (core_at f.cores core) (flat_attempt cfg f core now)) (reset_core 0)
+        get_or-set_other f.cores core c (flat_attempt cfg f core now).core (reset_core 0)
         (other_core c has)
         ∙ agree.cores c has;
-    powers = agree.powers;
-    core_count = length-set f.cores core (core_of (core_at f.cores core) (flat_attempt cfg f core now)) ∙ agree.core_count;
+    powers = λ c has.
+        power_alike (flat_attempt cfg f core now).outcome f.powers c (other_core c has) ∙ agree.powers c has;
+    core_count = length-set f.cores core (flat_attempt cfg f core now).core ∙ agree.core_count;
     consoles = agree.consoles;
   }
 

@@ -3,8 +3,8 @@ use Rattle.std.proofs.Common.{◌≡◌, ℕ, Bool, true, false, List, [], ◌�
 use Rattle.std.specs.Prelude.{IsTrue, if◌then◌else◌, filter, slice_get}
 use Rattle.std.proofs.lemmas.List.Elements.{All-nil, All-cons, All-append, filter_passes}
 use Rattle.bao_config.specs.Data.{ConfigData}
-use Rattle.vm_model.specs.Flat.{Flat, FlatEvent, Step, Wrote, runs, flat_step}
-use Rattle.vm_model.specs.Lone.{is_core_of, is_in_window, as_event, stored, emitted, seen, view}
+use Rattle.vm_model.specs.Flat.{Flat, FlatEvent, Step, Input, Wrote, runs, flat_step}
+use Rattle.vm_model.specs.Lone.{is_core_of, is_dev_of, is_in_window, as_event, stored, emitted, seen, view}
 use Rattle.vm_model.specs.Alone.{IsItsOwn, SeesItsOwn}
 
 module _ (cfg : ConfigData) (v : ℕ) where
@@ -27,8 +27,14 @@ module _ (cfg : ConfigData) (v : ℕ) where
     of_core core now true own = All-cons (IsItsOwn cfg v) (Step core now) [] own (All-nil (IsItsOwn cfg v))
     of_core core now false own = of_stores (runs cfg f core) (stored cfg f core now)
 
+    of_port : (port byte : ℕ) (own : Bool) → is_dev_of cfg v port ≡ own
+        → All (IsItsOwn cfg v) (if own then Input port byte ∷ [] else emitted cfg f v (Input port byte))
+    of_port port byte true own = All-cons (IsItsOwn cfg v) (Input port byte) [] own (All-nil (IsItsOwn cfg v))
+    of_port port byte false own = All-nil (IsItsOwn cfg v)
+
     of_event : (event : FlatEvent) → All (IsItsOwn cfg v) (seen cfg f v event)
     of_event (Step core now) = of_core core now (is_core_of cfg v core) refl
+    of_event (Input port byte) = of_port port byte (is_dev_of cfg v port) refl
     of_event (Wrote stores) = All-nil (IsItsOwn cfg v)
 
 -- each event of a view is the VM's own

@@ -15,7 +15,8 @@ use Rattle.bao_wellformed.specs.WellFormed.{IsWellFormed}
 use Rattle.bao_wellformed.proofs.Apart.{maps_apart}
 use Rattle.bao_wellformed.proofs.Once.{cores_owned, ports_apart}
 use Rattle.bao_wellformed.proofs.Places.{maps_granular, places_own}
-use Rattle.board.specs.Attempt.{is_allowed, reaches}
+use Rattle.board.specs.Stage.{is_allowed}
+use Rattle.board.specs.Judge.{reaches}
 use Rattle.vm_model.specs.Lone.{is_window, is_place, is_core_of, is_in_window}
 use Rattle.vm_model.specs.Agree.{IsInMap}
 use Rattle.vm_model.specs.Apart.{WellFormedApart, WellFormedGranular}

@@ -1,9 +1,9 @@
 -- What an event and a whole run are to a VM that the configuration keeps apart from the others.
 use Rattle.std.specs.Prelude.{◌≡◌, ℕ, IsTrue, IsFalse, List, All, Some, slice_get, ⊤}
 use Rattle.bao_config.specs.Data.{ConfigData, VmData}
-use Rattle.vm_model.specs.Flat.{Flat, FlatEvent, Step, Wrote, flat_step, flat_run}
+use Rattle.vm_model.specs.Flat.{Flat, FlatEvent, Step, Input, Wrote, flat_step, flat_run}
 use Rattle.vm_model.specs.Boot.{boot}
-use Rattle.vm_model.specs.Lone.{only, is_core_of, is_in_window, emitted, view, lone}
+use Rattle.vm_model.specs.Lone.{only, is_core_of, is_dev_of, is_in_window, emitted, view, lone}
 use Rattle.vm_model.specs.Agree.{Agree}
 use Rattle.vm_model.specs.Apart.{IsApart}
 
@@ -22,21 +22,23 @@ OtherStepsAgree =
     → Agree cfg vm (flat_step cfg f (Step core now)) (flat_run (only cfg v) g (emitted cfg f v (Step core now)))
 
 -- an event of a schedule
-abbrev pub IsStep : FlatEvent → Type 0
-IsStep (Step core count) = ⊤
-IsStep (Wrote stores) = ⊥
+abbrev pub IsOfSchedule : FlatEvent → Type 0
+IsOfSchedule (Step core count) = ⊤
+IsOfSchedule (Input port byte) = ⊤
+IsOfSchedule (Wrote stores) = ⊥
 
 -- After every schedule, whatever the other VMs do in it, a VM that is apart from them is where it is after its own run: alone
 -- on the machine, over its own steps and what the others stored in its windows.
 abbrev pub RunsAsIfAlone : Type 0
 RunsAsIfAlone =
     (cfg : ConfigData) (images : List (List ℕ)) (events : List FlatEvent) (v : ℕ) (vm : VmData)
-    → IsApart cfg images v vm → All IsStep events
+    → IsApart cfg images v vm → All IsOfSchedule events
     → Agree cfg vm (flat_run cfg (boot cfg images) events) (lone cfg images events v)
 
--- the event is a step of a core of the VM, or writes bytes of its windows alone
+-- the event is a step of a core of the VM, an input to a port of it, or writes bytes of its windows alone
 abbrev pub IsItsOwn : ConfigData → ℕ → FlatEvent → Type 0
 IsItsOwn cfg v (Step core count) = IsTrue (is_core_of cfg v core)
+IsItsOwn cfg v (Input port byte) = IsTrue (is_dev_of cfg v port)
 IsItsOwn cfg v (Wrote stores) = All (λ store. IsTrue (is_in_window cfg (slice_get cfg.vms v) store.0)) stores
 
 -- a view has such events alone: it brings in nothing private of the others

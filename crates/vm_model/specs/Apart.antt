@@ -6,7 +6,7 @@ use Rattle.bao_config.specs.Data.{ConfigData, VmData}
 use Rattle.bao_config.specs.Fits.{ConfigFits}
 use Rattle.bao_wellformed.specs.Map.{is_platform_port, kind_at, has_core, has_port, by_map}
 use Rattle.bao_wellformed.specs.WellFormed.{IsWellFormed}
-use Rattle.board.specs.Attempt.{reaches}
+use Rattle.board.specs.Judge.{reaches}
 use Rattle.vm_model.specs.Lone.{is_core_of, is_in_window}
 use Rattle.vm_model.specs.Agree.{IsInMap}
 

@@ -6,8 +6,8 @@ use Rattle.a64_state.specs.Registers.{reset_core}
 use Rattle.bao_config.specs.Data.{ConfigData, VmData}
 use Rattle.bao_wellformed.specs.Map.{owner}
 use Rattle.board.specs.Machine.{over}
-use Rattle.vm_model.specs.declared.power.Power.{Power}
-use Rattle.vm_model.specs.declared.power.Power.TheVariants.{On, Off}
+use Rattle.hypercalls.specs.declared.power.Power.{Power}
+use Rattle.hypercalls.specs.declared.power.Power.TheVariants.{On, Off}
 use Rattle.vm_model.specs.Flat.{Flat}
 
 -- memory at boot: zero but for the images, each at its VM's place

@@ -1,12 +1,15 @@
 -- The model: one flat machine of all VMs, which asks the configuration's map for each byte. There is no EL2 entry and no hypervisor in it.
-use Rattle.std.specs.Prelude.{ℕ, ◌+◌, ◌&&◌, Bool, true, false, if◌then◌else◌, List, [], ◌∷◌, is_some, is_none, Option, None, Some, slice_get, slice_set}
+use Rattle.std.specs.Prelude.{ℕ, ◌+◌, ◌&&◌, not, Bool, true, false, if◌then◌else◌, List, [], ◌∷◌, is_some, Option, None, Some, slice_get, slice_set}
 use Rattle.a64_state.specs.Core.{CoreData}
 use Rattle.bao_config.specs.Data.{ConfigData}
 use Rattle.bao_wellformed.specs.Map.{owner, is_platform_port, by_map}
-use Rattle.board.specs.Attempt.{Reach, reach_of, Effect, attempt, core_of, stored_of}
+use Rattle.board.specs.Stage.{by_regions}
+use Rattle.board.specs.Judge.{Reach, reach_of}
+use Rattle.board.specs.Attempt.{Outcome, Ran, Leave, Unbuilt, Effect, attempt}
 use Rattle.board.specs.Machine.{core_at, written}
-use Rattle.vm_model.specs.declared.power.Power.{Power}
-use Rattle.vm_model.specs.declared.power.Power.TheVariants.{On, Off}
+use Rattle.hypercalls.specs.declared.power.Power.{Power}
+use Rattle.hypercalls.specs.declared.power.Power.TheVariants.{On, Off, Parked}
+use Rattle.vm_model.specs.Park.{parks}
 
 -- memory by address, each core's registers and power by its number, what each port has put out, and the count of the last step
 pub record Flat : Type 0 where
@@ -16,39 +19,52 @@ pub record Flat : Type 0 where
   pub console : ℕ → List ℕ
   pub count : ℕ
 
--- what happens to the flat machine. A schedule has steps alone; a lone run also has what others wrote in shared windows
+-- what happens to the flat machine. A schedule has steps and inputs alone; a lone run also has what others wrote in shared windows
 pub data FlatEvent : Type 0 where
   Step : (core count : ℕ) → FlatEvent
+  Input : (port byte : ℕ) → FlatEvent
   Wrote : List (ℕ × ℕ) → FlatEvent
 
 abbrev pub is_on : Option Power → Bool
 is_on None = false
 is_on (Some On) = true
 is_on (Some Off) = false
+is_on (Some (Parked esr far)) = false
 
 -- the core has a VM and is on
 abbrev pub runs : ConfigData → Flat → ℕ → Bool
 runs cfg f core = is_some (owner cfg core) && is_on (slice_get f.powers core)
 
--- what a core reaches by the map
+-- what a core reaches, by its EL1 regions and the map
 abbrev pub flat_reach : ConfigData → Flat → ℕ → Reach
-flat_reach cfg f core = reach_of (by_map cfg core) (is_platform_port cfg) f.bytes
+flat_reach cfg f core =
+    reach_of (by_regions (core_at f.cores core)) (by_map cfg core) (is_platform_port cfg) f.bytes
 
 -- what a step of the core does at a count
-abbrev pub flat_attempt : ConfigData → Flat → ℕ → ℕ → Option Effect
+abbrev pub flat_attempt : ConfigData → Flat → ℕ → ℕ → Effect
 flat_attempt cfg f core now = attempt (flat_reach cfg f core) (core_at f.cores core) now
+
+-- the powers after a step of a core that comes to this: an abort of stage 2 parks it
+abbrev pub powers_after : ConfigData → ℕ → Outcome → List Power → List Power
+powers_after cfg core Ran powers = powers
+powers_after cfg core (Leave esr far) powers =
+    if parks cfg core esr far then slice_set powers core (Parked esr far) else powers
+powers_after cfg core Unbuilt powers = powers
 
 -- after a step of a core that runs
 abbrev pub flat_stepped : ConfigData → Flat → ℕ → ℕ → Flat
 flat_stepped cfg f core now =
     record f {
-      bytes = written (stored_of (flat_attempt cfg f core now)) f.bytes;
-      cores = slice_set f.cores core (core_of (core_at f.cores core) (flat_attempt cfg f core now));
+      bytes = written (flat_attempt cfg f core now).stored f.bytes;
+      cores = slice_set f.cores core (flat_attempt cfg f core now).core;
+      powers = powers_after cfg core (flat_attempt cfg f core now).outcome f.powers;
       count = now;
     }
 
+-- one event. No input is built, and it changes nothing
 abbrev pub flat_step : ConfigData → Flat → FlatEvent → Flat
 flat_step cfg f (Step core now) = if runs cfg f core then flat_stepped cfg f core now else f
+flat_step cfg f (Input port byte) = f
 flat_step cfg f (Wrote stores) = record f { bytes = written stores f.bytes }
 
 -- a whole run, from a state on
@@ -59,6 +75,7 @@ flat_run cfg f (event ∷ events) = flat_run cfg (flat_step cfg f event) events
 -- the event enters a core: a step of a core that runs
 abbrev pub is_entered : ConfigData → Flat → FlatEvent → Bool
 is_entered cfg f (Step core now) = runs cfg f core
+is_entered cfg f (Input port byte) = false
 is_entered cfg f (Wrote stores) = false
 
 -- how many events enter a core
@@ -67,10 +84,17 @@ entered_count cfg f [] = 0
 entered_count cfg f (event ∷ events) =
     (if is_entered cfg f event then 1 else 0) + entered_count cfg (flat_step cfg f event) events
 
+-- What a step of a core comes to isn't built: not by the machine, or not by the hypervisor, which does nothing at an exception
+-- that goes to EL2 yet but park the core.
+abbrev pub is_outcome_unbuilt : ConfigData → ℕ → Outcome → Bool
+is_outcome_unbuilt cfg core Ran = false
+is_outcome_unbuilt cfg core (Leave esr far) = not (parks cfg core esr far)
+is_outcome_unbuilt cfg core Unbuilt = true
+
 -- the event does something that isn't built
 abbrev pub is_event_unbuilt : ConfigData → Flat → FlatEvent → Bool
-is_event_unbuilt cfg f (Step core now) =
-    runs cfg f core && is_none (flat_attempt cfg f core now)
+is_event_unbuilt cfg f (Step core now) = runs cfg f core && is_outcome_unbuilt cfg core (flat_attempt cfg f core now).outcome
+is_event_unbuilt cfg f (Input port byte) = true
 is_event_unbuilt cfg f (Wrote stores) = false
 
 -- the number of the first event that does something that isn't built, counted on from a number

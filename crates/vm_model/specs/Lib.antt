@@ -1,3 +1,4 @@
+pub mod Park
 pub mod Flat
 pub mod Boot
 pub mod Lone

@@ -4,9 +4,8 @@ use Rattle.std.specs.List.{position_from}
 use Rattle.bao_config.specs.Data.{ConfigData, VmData}
 use Rattle.bao_wellformed.specs.declared.map.Kind.{Kind}
 use Rattle.bao_wellformed.specs.declared.map.Kind.TheVariants.{Ram, Port, Window, Hole}
-use Rattle.bao_wellformed.specs.Map.{kind_at, has_core}
-use Rattle.board.specs.Attempt.{stored_of}
-use Rattle.vm_model.specs.Flat.{Flat, FlatEvent, Step, Wrote, runs, flat_attempt, flat_step, flat_run}
+use Rattle.bao_wellformed.specs.Map.{kind_at, has_core, has_port}
+use Rattle.vm_model.specs.Flat.{Flat, FlatEvent, Step, Input, Wrote, runs, flat_attempt, flat_step, flat_run}
 use Rattle.vm_model.specs.Boot.{boot}
 
 -- the configuration with this VM as its only one; the platform, the hypervisor's range and the shared memories stay
@@ -31,7 +30,7 @@ as_event (store ∷ stores) = Wrote (store ∷ stores) ∷ []
 
 -- the bytes that a step stores, each with its address, in order
 abbrev pub stored : ConfigData → Flat → ℕ → ℕ → List (ℕ × ℕ)
-stored cfg f core now = stored_of (flat_attempt cfg f core now)
+stored cfg f core now = (flat_attempt cfg f core now).stored
 
 -- what an event of another brings into the VM's run: the bytes that it stores in the VM's windows
 abbrev pub emitted : ConfigData → Flat → ℕ → FlatEvent → List FlatEvent
@@ -39,6 +38,7 @@ emitted cfg f v (Step core now) =
     if runs cfg f core
     then as_event (filter (λ store. is_in_window cfg (slice_get cfg.vms v) store.0) (stored cfg f core now))
     else []
+emitted cfg f v (Input port byte) = []
 emitted cfg f v (Wrote stores) = []
 
 abbrev pub is_place : ℕ → Option ℕ → Bool
@@ -49,10 +49,21 @@ is_place v (Some w) = w == v
 abbrev pub is_core_of : ConfigData → ℕ → ℕ → Bool
 is_core_of cfg v core = is_place v (position_from (has_core core) 0 cfg.vms)
 
--- what an event is in the VM's own run: a step of its own core stays, and of any other event what it emits
+abbrev pub has_dev : ℕ → Option VmData → Bool
+has_dev port None = false
+has_dev port (Some vm) = has_port port vm
+
+-- the port is among the VM's devs
+abbrev pub is_dev_of : ConfigData → ℕ → ℕ → Bool
+is_dev_of cfg v port = has_dev port (slice_get cfg.vms v)
+
+-- What an event is in the VM's own run: a step of its own core stays, and so does an input to its own port; of any other event
+-- what it emits.
 abbrev pub seen : ConfigData → Flat → ℕ → FlatEvent → List FlatEvent
 seen cfg f v (Step core now) =
     if is_core_of cfg v core then Step core now ∷ [] else emitted cfg f v (Step core now)
+seen cfg f v (Input port byte) =
+    if is_dev_of cfg v port then Input port byte ∷ [] else emitted cfg f v (Input port byte)
 seen cfg f v (Wrote stores) = []
 
 -- the events of the VM's own run, from a state of the whole machine on

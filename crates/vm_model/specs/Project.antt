@@ -1,7 +1,7 @@
 -- What a board is to the model.
 use Rattle.std.specs.Prelude.{List}
 use Rattle.board.specs.Machine.{Machine}
-use Rattle.vm_model.specs.declared.power.Power.{Power}
+use Rattle.hypercalls.specs.declared.power.Power.{Power}
 use Rattle.vm_model.specs.Flat.{Flat}
 
 -- the flat machine for which a board stands, whose cores have these powers

@@ -13,7 +13,8 @@ pub fn others_only_write_windows()
     ensures { OtherStepsAgree }
 {}
 
-/// A VM's view of a run has steps of its own cores and writes of bytes in its windows, and nothing else of the others. The
+/// A VM's view of a run has steps of its own cores, inputs to its own ports and writes of bytes in its windows, and nothing
+/// else of the others. The
 /// function does nothing; its contract is the law.
 #[tactic(auto, using(crate::proofs::View::sees_its_own))]
 pub fn a_view_has_nothing_else()
@@ -21,8 +22,8 @@ pub fn a_view_has_nothing_else()
 {}
 
 /// After every schedule, a VM that the configuration keeps apart from the others has the memory, registers, powers and
-/// consoles that it has after its own run: alone on the machine, over its own steps and what the others stored in its
-/// windows. The function does nothing; its contract is the law.
+/// consoles that it has after its own run: alone on the machine, over its own steps and inputs and what the others stored
+/// in its windows. The function does nothing; its contract is the law.
 pub fn a_vm_runs_as_if_alone()
     ensures { RunsAsIfAlone }
 {}

@@ -2,8 +2,8 @@
 //! hypervisor nor an EL2 entry in it; and the laws of isolation over it, for any number of VMs: one that the
 //! configuration keeps apart from the others runs as if it were alone.
 //!
-//! It shares with the machine of `board` what one step does. But for the type of a core's power here is no code
-//! that a program runs: each law is the contract of a function that does nothing.
+//! It shares with the machine of `board` what one step does. Here is no code that a program runs: each law is the contract
+//! of a function that does nothing.
 #![tactic(auto)]
 
 pub use alone::{
@@ -11,8 +11,6 @@ pub use alone::{
     a_well_formed_configuration_keeps_its_vms_apart, others_only_write_windows,
 };
 pub use pair::{an_overlap_is_not_apart, the_pair_is_apart, what_the_pair_sees};
-pub use power::Power;
 
 mod alone;
 mod pair;
-mod power;

@@ -1,0 +1,5 @@
+pub mod Numbered
+pub mod Realises
+pub mod Refines
+pub mod Packs
+pub mod Models
