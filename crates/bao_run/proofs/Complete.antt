@@ -68,15 +68,13 @@ module _ (call : Call) (files : Files) (held : call.shelf.held ≡ Some files) w
   complete status.BadToml (reads, h) low well wlow wsame = refused status.BadToml h
   complete (status.IllConfig why) (reads, h) low well wlow wsame = refused (status.IllConfig why) h
   complete (status.TooMany core runs entries) (reads, h) low well wlow wsame = refused (status.TooMany core runs entries) h
+  complete (status.BadSchedule line rule) (run, h) low well wlow wsame = refused (status.BadSchedule line rule) h
   complete status.WriteFault (inl (input, fault)) low well wlow wsame =
       absurd (risen-other call.sink.faults_before wlow (sym fault.played.text.1 ∙ wsame))
   complete status.WriteFault (inr fault) low well wlow wsame =
       absurd (risen-other call.sink.faults_before wlow (sym fault.text.1 ∙ wsame))
   complete status.OutOfMemory h low well wlow wsame = inr refl
-  complete status.ManyVms (run, h) low well wlow wsame = refused status.ManyVms h
   complete (status.NotBuilt part.Words) (command, h) low well wlow wsame = refused (status.NotBuilt part.Words) h
-  complete (status.NotBuilt part.Config) (run, h) low well wlow wsame = refused (status.NotBuilt part.Config) h
-  complete (status.NotBuilt part.Schedule) (run, h) low well wlow wsame = refused (status.NotBuilt part.Schedule) h
   complete (status.NotBuilt (part.Event n)) (input, halted) low well wlow wsame =
       ruled (Accept input) (status.NotBuilt (part.Event n)) halted.accepted.told (sym (ap status_after halted.played.unbuilt))
 

@@ -210,9 +210,9 @@ module _ (held : Option Files) (start now new : Blame) (config schedule : List â
   image_refused status.BadToml h = absurd h
   image_refused (status.IllConfig why) h = absurd h
   image_refused (status.TooMany core runs entries) h = absurd h
+  image_refused (status.BadSchedule line rule) h = absurd h
   image_refused status.WriteFault h = absurd h
   image_refused status.OutOfMemory h = h âˆ™ same_faults
-  image_refused status.ManyVms h = absurd h
   image_refused (status.NotBuilt part) h = absurd h
 
 -- what is told of a name, as a fact on the files

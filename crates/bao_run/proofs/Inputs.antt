@@ -1,27 +1,29 @@
 -- What the parts of reading answer is what the command rules.
-use Rattle.std.proofs.Common.{◌≡◌, ℕ, ◌+◌, ◌<◌, ◌≤◌, Bool, true, false, List, [], ◌∷◌, ◌++◌, length, find, cond, drop, Option, None, Some, Err, refl, sym, ap, ◌∙◌, arith, append-nil}
-use Rattle.std.specs.Prelude.{IsSomeAnd, if◌then◌else◌, nat_lt, unwrap_or}
+use Rattle.std.proofs.Common.{◌≡◌, ℕ, ◌+◌, ◌<◌, ◌≤◌, Bool, true, false, List, [], ◌∷◌, ◌++◌, length, find, cond, drop, map, Option, None, Some, Err, refl, sym, subst, ap, ◌∙◌, arith, append-nil}
+use Rattle.std.specs.Prelude.{Result, Ok, IsSomeAnd, if◌then◌else◌, nat_lt, unwrap_or}
 use Rattle.std.specs.Option.{option_map}
 use Rattle.std.proofs.Math.ListN.{drop_of_length-le}
 use Rattle.std.proofs.lemmas.Bool.Decides.{nat_tests}
 use Rattle.bao_config.specs.Data.{ConfigData, VmData}
 use Rattle.outside.specs.Faults.{risen}
 use Rattle.outside.specs.Shelf.{Blame, IfTold}
-use Rattle.mpu_packer.specs.declared.packing.PackError.{PackError}
-use Rattle.mpu_packer.specs.declared.packing.PackError.TheVariants as pack
 use Rattle.report.specs.declared.status.FileId.{FileId}
 use Rattle.report.specs.declared.status.FileId.TheVariants as file
-use Rattle.report.specs.declared.status.Part.TheVariants as part
 use Rattle.report.specs.declared.status.Status.{Status}
 use Rattle.report.specs.declared.status.Status.TheVariants as status
-use Rattle.vm_model.specs.Flat.{FlatEvent}
+use Rattle.vm_create.specs.Boot.{ArePlans}
 use Rattle.bao_run.specs.Words.{Command, Run, Check, same}
 use Rattle.bao_run.specs.Call.{Files, ShelfUse, IsFaultless}
-use Rattle.bao_run.specs.MatchSchedule.{MatchStatus}
+use Rattle.schedule.specs.Answer.{TellsBroken}
+use Rattle.schedule.specs.Schedule.{Events, schedule_of}
+use Rattle.schedule.specs.declared.error.ScheduleError.{ScheduleError}
+use Rattle.schedule.specs.declared.error.ScheduleError.TheVariants as schedule_error
+use Rattle.hypervisor.specs.declared.event.Event.{Event}
 use Rattle.bao_run.specs.Ruling.{Ruling, Refused, Missing, Shown, Accept, rule_command, rule_config, rule_check, rule_run, rule_files, rule_images, rule_schedule, rule_events, schedule_limit}
-use Rattle.bao_run.specs.Schedule.{schedule_of}
-use Rattle.bao_run.specs.Input.{IfHeld, IsFetch, IsRefused, IsRuledBy, Named, files_of, first_named, lacking}
-use Rattle.bao_run.specs.Reading.{HoldsConfig, IsConfigAnswer, AreImages, HasCome, IsImagesAnswer, IsBuiltAnswer, IsOverfull, IsPackable, packing_status}
+use Rattle.hypervisor.specs.Event.{flat_event}
+use Rattle.bao_run.specs.declared.config.Packed.{Packed}
+use Rattle.bao_run.specs.Input.{IfHeld, IsFetch, IsCheckAnswer, IsRefused, IsRuledBy, Named, files_of, first_named, lacking}
+use Rattle.bao_run.specs.Reading.{HoldsConfig, IsConfigAnswer, AreImages, HasCome, IsImagesAnswer, IsPackedAnswer, IsPackable, schedule_status}
 use Rattle.bao_run.proofs.Rules.{config_passes, images_pass, same_itself, IsNext, names, missed, is_next, at_schedule}
 use Rattle.bao_run.proofs.Fetches.{schedule_told}
 
@@ -79,9 +81,9 @@ module _ (shelf : ShelfUse) (config : List ℕ) (command : Command) (next : File
   config_refused status.BadToml h = refused status.BadToml h
   config_refused (status.IllConfig why) h = refused (status.IllConfig why) h
   config_refused (status.TooMany core runs entries) h = absurd h
+  config_refused (status.BadSchedule line rule) h = absurd h
   config_refused status.WriteFault h = absurd h
   config_refused status.OutOfMemory h = h
-  config_refused status.ManyVms h = absurd h
   config_refused (status.NotBuilt part) h = absurd h
 
 config_first : (config : List ℕ) (others : List (FileId × List ℕ)) → first_named config ((file.Config, config) ∷ others) ≡ Some file.Config
@@ -108,14 +110,22 @@ module _ (shelf : ShelfUse) (config : List ℕ) (cfg : ConfigData) (holds : IfHe
     faultless,
   )
 
-  pub check_packing_refused : (core : ℕ) (fault : PackError) → IsOverfull cfg core fault
-      → IsRefused shelf (Check config) (packing_status core fault)
-  check_packing_refused core (pack.TooMany runs entries) full =
-      check_rules (Refused (status.TooMany core runs entries)) (full (Shown cfg))
-  check_packing_refused core pack.OutOfMemory full = faultless
-
-  pub check_shown : IsPackable cfg → IsRuledBy shelf (Check config) (Shown cfg)
-  check_shown packable = check_rules (Shown cfg) (packable (Shown cfg))
+  pub check_answer : (answer : Result Packed Status) → IsPackedAnswer cfg answer → IsCheckAnswer shelf (Check config) answer
+  check_answer (Ok packed) h = record {
+    told = subst (λ cfg. IsRuledBy shelf (Check config) (Shown cfg)) (sym h.same) (check_rules (Shown cfg) (h.packable (Shown cfg)));
+    plans = subst (λ cfg. ArePlans cfg packed.plans.items) (sym h.same) h.plans;
+  }
+  check_answer (Err status.Done) h = absurd h
+  check_answer (Err status.Usage) h = absurd h
+  check_answer (Err (status.ReadFault file)) h = absurd h
+  check_answer (Err (status.TooLong file limit)) h = absurd h
+  check_answer (Err status.BadToml) h = absurd h
+  check_answer (Err (status.IllConfig why)) h = absurd h
+  check_answer (Err (status.TooMany core runs entries)) h = check_rules (Refused (status.TooMany core runs entries)) (h (Shown cfg))
+  check_answer (Err (status.BadSchedule line rule)) h = absurd h
+  check_answer (Err status.WriteFault) h = absurd h
+  check_answer (Err status.OutOfMemory) h = faultless
+  check_answer (Err (status.NotBuilt part)) h = absurd h
 
 -- a run of a well-formed configuration
 module _ (shelf : ShelfUse) (config schedule : List ℕ) (cfg : ConfigData) (holds : IfHeld shelf.held (λ files. HoldsConfig files config cfg)) where
@@ -125,27 +135,28 @@ module _ (shelf : ShelfUse) (config schedule : List ℕ) (cfg : ConfigData) (hol
       both shelf.held (λ files. HoldsConfig files config cfg) P (λ files. rule_command files (Run config schedule) ≡ decided)
       (λ files it p. config_passes files config cfg it (rule_run files schedule) ∙ rules files p) holds told
 
-  pub built_refused : IsFaultless shelf → (decided : Status) → IsBuiltAnswer cfg (Err decided) → IsRefused shelf (Run config schedule) decided
-  built_refused faultless status.Done h = absurd h
-  built_refused faultless status.Usage h = absurd h
-  built_refused faultless (status.ReadFault file) h = absurd h
-  built_refused faultless (status.TooLong file limit) h = absurd h
-  built_refused faultless status.BadToml h = absurd h
-  built_refused faultless (status.IllConfig why) h = absurd h
-  built_refused faultless (status.TooMany core runs entries) h =
-      (run_rules (λ files. HoldsConfig files config cfg) (Refused (status.TooMany core runs entries)) holds (λ files it. h files schedule), faultless)
-  built_refused faultless status.WriteFault h = absurd h
-  built_refused faultless status.OutOfMemory h = faultless
-  built_refused faultless status.ManyVms h =
-      (tt, (run_rules (λ files. HoldsConfig files config cfg) (Refused status.ManyVms) holds (λ files it. h files schedule), faultless))
-  built_refused faultless (status.NotBuilt part.Words) h = absurd h
-  built_refused faultless (status.NotBuilt part.Config) h =
-      (tt, (run_rules (λ files. HoldsConfig files config cfg) (Refused (status.NotBuilt part.Config)) holds (λ files it. h files schedule), faultless))
-  built_refused faultless (status.NotBuilt part.Schedule) h = absurd h
-  built_refused faultless (status.NotBuilt (part.Event number)) h = absurd h
+  pub packing_refused : IsFaultless shelf → (decided : Status) → IsPackedAnswer cfg (Err decided) → IsRefused shelf (Run config schedule) decided
+  packing_refused faultless status.Done h = absurd h
+  packing_refused faultless status.Usage h = absurd h
+  packing_refused faultless (status.ReadFault file) h = absurd h
+  packing_refused faultless (status.TooLong file limit) h = absurd h
+  packing_refused faultless status.BadToml h = absurd h
+  packing_refused faultless (status.IllConfig why) h = absurd h
+  packing_refused faultless (status.TooMany core runs entries) h = (
+    run_rules (λ files. HoldsConfig files config cfg) (Refused (status.TooMany core runs entries)) holds
+        (λ files it. h (rule_files files schedule cfg)),
+    faultless,
+  )
+  packing_refused faultless (status.BadSchedule line rule) h = absurd h
+  packing_refused faultless status.WriteFault h = absurd h
+  packing_refused faultless status.OutOfMemory h = faultless
+  packing_refused faultless (status.NotBuilt part) h = absurd h
 
   -- images and schedule decide
-  module _ (rules : (files : Files) → rule_run files schedule cfg ≡ rule_files files schedule cfg) where
+  module _ (packable : IsPackable cfg) where
+    rules : (files : Files) → rule_run files schedule cfg ≡ rule_files files schedule cfg
+    rules files = packable (rule_files files schedule cfg)
+
     -- where a name is told as missing, the first file of that name is missed
     module _ (files : Files) (it : HoldsConfig files config cfg) (name : List ℕ) (images : List (List ℕ)) (come : AreImages files cfg.vms images)
         (here : IsNext files name schedule cfg.vms images) (first : FileId) where
@@ -192,9 +203,9 @@ module _ (shelf : ShelfUse) (config schedule : List ℕ) (cfg : ConfigData) (hol
       images_refused status.BadToml h = absurd h
       images_refused (status.IllConfig why) h = absurd h
       images_refused (status.TooMany core runs entries) h = absurd h
+      images_refused (status.BadSchedule line rule) h = absurd h
       images_refused status.WriteFault h = absurd h
       images_refused status.OutOfMemory h = h ∙ same_faults
-      images_refused status.ManyVms h = absurd h
       images_refused (status.NotBuilt part) h = absurd h
 
       -- all images have come: the schedule decides
@@ -261,15 +272,15 @@ module _ (shelf : ShelfUse) (config schedule : List ℕ) (cfg : ConfigData) (hol
         schedule_refused blamed at status.BadToml h = absurd h
         schedule_refused blamed at (status.IllConfig why) h = absurd h
         schedule_refused blamed at (status.TooMany core runs entries) h = absurd h
+        schedule_refused blamed at (status.BadSchedule line rule) h = absurd h
         schedule_refused blamed at status.WriteFault h = absurd h
         schedule_refused blamed at status.OutOfMemory h = h ∙ same_faults
-        schedule_refused blamed at status.ManyVms h = absurd h
         schedule_refused blamed at (status.NotBuilt part) h = absurd h
 
         -- the bytes of the schedule have come
         module _ (bytes : List ℕ) (content : IfTold shelf.held schedule (λ content. content ≡ Some bytes)) (short : length bytes ≤ schedule_limit)
             (faultless : IsFaultless shelf) where
-          by_bytes : (decided : Ruling) → rule_events cfg images (schedule_of bytes) ≡ decided → IsRuledBy whole (Run config schedule) decided
+          by_bytes : (decided : Ruling) → rule_events cfg images (schedule_of cfg bytes) ≡ decided → IsRuledBy whole (Run config schedule) decided
           by_bytes decided is = (
             by_schedule (λ files. files schedule ≡ Some bytes) decided (as_told shelf.held (λ content. content ≡ Some bytes) content)
                 (λ files held.
@@ -277,23 +288,13 @@ module _ (shelf : ShelfUse) (config schedule : List ℕ) (cfg : ConfigData) (hol
             faultless ∙ same_faults,
           )
 
-          pub events_refused : (decided : Status) → MatchStatus bytes decided → IsRefused whole (Run config schedule) decided
-          events_refused status.Done h = absurd h
-          events_refused status.Usage h = absurd h
-          events_refused (status.ReadFault file) h = absurd h
-          events_refused (status.TooLong file limit) h = absurd h
-          events_refused status.BadToml h = absurd h
-          events_refused (status.IllConfig why) h = absurd h
-          events_refused (status.TooMany core runs entries) h = absurd h
-          events_refused status.WriteFault h = absurd h
-          events_refused status.OutOfMemory h = faultless ∙ same_faults
-          events_refused status.ManyVms h = absurd h
-          events_refused (status.NotBuilt part.Words) h = absurd h
-          events_refused (status.NotBuilt part.Config) h = absurd h
-          events_refused (status.NotBuilt part.Schedule) h =
-              (tt, by_bytes (Refused (status.NotBuilt part.Schedule)) (ap (rule_events cfg images) h))
-          events_refused (status.NotBuilt (part.Event number)) h = absurd h
+          pub events_refused : (fault : ScheduleError) → TellsBroken (schedule_of cfg bytes) fault
+              → IsRefused whole (Run config schedule) (schedule_status fault)
+          events_refused (schedule_error.Bad line rule) h =
+              (tt, by_bytes (Refused (status.BadSchedule line rule)) (ap (rule_events cfg images) h))
+          events_refused schedule_error.OutOfMemory h = faultless ∙ same_faults
 
-          pub accepts : (events : List FlatEvent) → schedule_of bytes ≡ Some events
-              → IsRuledBy whole (Run config schedule) (Accept (record { cfg = cfg; images = images; events = events }))
-          accepts events is = by_bytes (Accept (record { cfg = cfg; images = images; events = events })) (ap (rule_events cfg images) is)
+          pub accepts : (events : List Event) → schedule_of cfg bytes ≡ Events events
+              → IsRuledBy whole (Run config schedule) (Accept (record { cfg = cfg; images = images; events = map flat_event events }))
+          accepts events is =
+              by_bytes (Accept (record { cfg = cfg; images = images; events = map flat_event events })) (ap (rule_events cfg images) is)

@@ -1,14 +1,10 @@
-pub mod Realises
-pub mod Refines
 pub mod Numbers
-pub mod Lines
 pub mod Rules
 pub mod Packs
-pub mod Booted
 pub mod Fetches
 pub mod Inputs
-pub mod Fold
 pub mod Outcomes
 pub mod Alone
 pub mod Complete
 pub mod SureLemmas
+pub mod Played

@@ -56,6 +56,7 @@ module _ (call : Call) (board : call.board.after ≡ call.board.before) where
   refused_input status.BadToml reads unfitted h line = (reads, ruled status.BadToml h line)
   refused_input (status.IllConfig why) reads unfitted h line = (reads, ruled (status.IllConfig why) h line)
   refused_input (status.TooMany core runs entries) reads unfitted h line = (reads, ruled (status.TooMany core runs entries) h line)
+  refused_input (status.BadSchedule number rule) reads unfitted h line = (h.0, ruled (status.BadSchedule number rule) h.1 line)
   refused_input status.WriteFault reads unfitted h line = absurd h
   refused_input status.OutOfMemory reads unfitted h line = record {
     reads = reads;
@@ -63,10 +64,7 @@ module _ (call : Call) (board : call.board.after ≡ call.board.before) where
     unfitted = (ap (λ m. m.fitted) board ∙ unfitted, ap (λ m. m.console) board);
     line = line;
   }
-  refused_input status.ManyVms reads unfitted h line = (h.0, ruled status.ManyVms h.1 line)
   refused_input (status.NotBuilt part.Words) reads unfitted h line = absurd h
-  refused_input (status.NotBuilt part.Config) reads unfitted h line = (h.0, ruled (status.NotBuilt part.Config) h.1 line)
-  refused_input (status.NotBuilt part.Schedule) reads unfitted h line = (h.0, ruled (status.NotBuilt part.Schedule) h.1 line)
   refused_input (status.NotBuilt (part.Event number)) reads unfitted h line = absurd h
 
   -- a packing, as far as it was put out
@@ -87,6 +85,7 @@ module _ (call : Call) (board : call.board.after ≡ call.board.before) where
   shown packed check h status.BadToml text = absurd text
   shown packed check h (status.IllConfig why) text = absurd text
   shown packed check h (status.TooMany core runs entries) text = absurd text
+  shown packed check h (status.BadSchedule line rule) text = absurd text
   shown packed check h status.WriteFault text = inr (record {
     check = check;
     cfg = checked_data packed.checked;
@@ -97,7 +96,6 @@ module _ (call : Call) (board : call.board.after ≡ call.board.before) where
     text = text;
   })
   shown packed check h status.OutOfMemory text = absurd text
-  shown packed check h status.ManyVms text = absurd text
   shown packed check h (status.NotBuilt part) text = absurd text
 
 module _ (call : Call) (input : Input) (run : IsRun (command_of call.words)) (reads : Reads (command_of call.words))
@@ -109,7 +107,7 @@ module _ (call : Call) (input : Input) (run : IsRun (command_of call.words)) (re
       well_formed = input.packed.checked.well_formed;
       fits = input.packed.checked.config.fits;
       rooms = h.playable.rooms;
-      spelled = h.spelled;
+      spelled = record { schedule = h.spelled.0; said = input.events.items; spelled = h.spelled.1; taken = refl };
     };
     told = h.told.0;
     read = h.told.1;
@@ -124,10 +122,8 @@ module _ (call : Call) (input : Input) (run : IsRun (command_of call.words)) (re
   played status.BadToml p = absurd p
   played (status.IllConfig why) p = absurd p
   played (status.TooMany core runs entries) p = absurd p
+  played (status.BadSchedule line rule) p = absurd p
   played status.WriteFault p = inl (input_data input, record { accepted = accepted; played = p })
   played status.OutOfMemory p = record { reads = reads; read = h.told.1; unfitted = p.unfitted; line = p.line }
-  played status.ManyVms p = absurd p
   played (status.NotBuilt part.Words) p = absurd p
-  played (status.NotBuilt part.Config) p = absurd p
-  played (status.NotBuilt part.Schedule) p = absurd p
   played (status.NotBuilt (part.Event number)) p = (input_data input, record { accepted = accepted; played = p })

@@ -11,12 +11,14 @@ use Rattle.report.specs.declared.status.FileId.TheVariants as file
 use Rattle.report.specs.declared.status.Part.TheVariants as part
 use Rattle.report.specs.declared.status.Status.{Status}
 use Rattle.report.specs.declared.status.Status.TheVariants as status
+use Rattle.schedule.specs.Schedule.{Events, schedule_of}
+use Rattle.hypervisor.specs.Event.{IsPlaced}
 use Rattle.vm_model.specs.Apart.{FitRooms}
 use Rattle.vm_create.specs.Boot.{ArePlans}
 use Rattle.bao_run.specs.Words.{Command, Run, Check, Unbuilt, Unknown, IsRun, same}
 use Rattle.bao_run.specs.Call.{InputData, Files, ShelfUse, IsFaultless, HasFailed}
 use Rattle.bao_run.specs.Ruling.{Ruling, Refused, Missing, Shown, Accept, rule_command}
-use Rattle.bao_run.specs.Schedule.{schedule_of, flat_event, IsOfCoreZero}
+use Rattle.hypervisor.specs.Event.{flat_event}
 use Rattle.bao_run.specs.declared.input.Input.{Input}
 use Rattle.bao_run.specs.declared.config.Packed.{Packed}
 
@@ -72,15 +74,11 @@ IsRefused shelf command (status.TooLong file limit) = IsRuledBy shelf command (R
 IsRefused shelf command status.BadToml = IsRuledBy shelf command (Refused status.BadToml)
 IsRefused shelf command (status.IllConfig why) = IsRuledBy shelf command (Refused (status.IllConfig why))
 IsRefused shelf command (status.TooMany core runs entries) = IsRuledBy shelf command (Refused (status.TooMany core runs entries))
+IsRefused shelf command (status.BadSchedule line rule) =
+    IsRun command × IsRuledBy shelf command (Refused (status.BadSchedule line rule))
 IsRefused shelf command status.WriteFault = ⊥
 IsRefused shelf command status.OutOfMemory = IsFaultless shelf
-IsRefused shelf command status.ManyVms =
-    IsRun command × IsRuledBy shelf command (Refused status.ManyVms)
 IsRefused shelf command (status.NotBuilt part.Words) = ⊥
-IsRefused shelf command (status.NotBuilt part.Config) =
-    IsRun command × IsRuledBy shelf command (Refused (status.NotBuilt part.Config))
-IsRefused shelf command (status.NotBuilt part.Schedule) =
-    IsRun command × IsRuledBy shelf command (Refused (status.NotBuilt part.Schedule))
 IsRefused shelf command (status.NotBuilt (part.Event number)) = ⊥
 
 -- what an `Input` is made of
@@ -92,18 +90,18 @@ input_data input =
       events = map flat_event input.events.items;
     }
 
--- the plans are the packings of the cores, each image fits its VM's room, and the events are steps of core 0, no more than a
--- board takes
+-- the plans are the packings of the cores, each image fits its VM's room, and the events are of cores of the platform and of
+-- assigned ports, no more than a board takes
 pub record CanPlay (input : Input) : Type 0 where
   pub plans : ArePlans (checked_data input.packed.checked) input.packed.plans.items
   pub rooms : FitRooms (checked_data input.packed.checked) (map (λ image. image.items) input.images.items)
-  pub own : All IsOfCoreZero input.events.items
+  pub placed : All (IsPlaced (checked_data input.packed.checked)) input.events.items
   pub few : length input.events.items ≤ event_limit
 
 -- the input that the told contents give
 pub record IsInput (shelf : ShelfUse) (command : Command) (input : Input) : Type 0 where
   pub told : IsRuledBy shelf command (Accept (input_data input))
-  pub spelled : (bytes : List ℕ) × (schedule_of bytes ≡ Some (map flat_event input.events.items))
+  pub spelled : (bytes : List ℕ) × (schedule_of (checked_data input.packed.checked) bytes ≡ Events input.events.items)
   pub playable : CanPlay input
 
 abbrev pub IsAnswer : ShelfUse → Command → Result Input Status → Type 0
@@ -140,7 +138,7 @@ IsFetch shelf wanted (Err (status.TooLong file limit)) =
 IsFetch shelf wanted (Err status.BadToml) = ⊥
 IsFetch shelf wanted (Err (status.IllConfig why)) = ⊥
 IsFetch shelf wanted (Err (status.TooMany core runs entries)) = ⊥
+IsFetch shelf wanted (Err (status.BadSchedule line rule)) = ⊥
 IsFetch shelf wanted (Err status.WriteFault) = ⊥
 IsFetch shelf wanted (Err status.OutOfMemory) = IsFaultless shelf
-IsFetch shelf wanted (Err status.ManyVms) = ⊥
 IsFetch shelf wanted (Err (status.NotBuilt part)) = ⊥

@@ -1,15 +1,11 @@
-pub mod Packed
 pub mod Words
 pub mod Command
 pub mod Schedule
-pub mod MatchSchedule
 pub mod Call
 pub mod Ruling
 pub mod Input
 pub mod Reading
-pub mod Ready
 pub mod Outcome
 pub mod Play
-pub mod Steps
 pub mod Answers
 pub mod SureAnswers

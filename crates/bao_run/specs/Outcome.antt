@@ -18,8 +18,8 @@ use Rattle.bao_run.specs.Words.{Reads, IsRun, IsCheck, Unbuilt, Unknown, command
 use Rattle.bao_run.specs.Call.{InputData, SinkUse, Call, IsFaultless, IsTaken, IsCut, IsPut}
 use Rattle.bao_run.specs.Ruling.{Refused, Shown, Accept, ruling}
 use Rattle.bao_run.specs.Input.{IfHeld, IsFaultAt}
-use Rattle.bao_run.specs.Packed.{packings}
-use Rattle.bao_run.specs.Schedule.{schedule_of}
+use Rattle.hypervisor.specs.Packed.{packings}
+use Rattle.bao_run.specs.Schedule.{IsSpelled}
 use Rattle.bao_run.specs.Play.{IsUnfitted, IsPlayed}
 
 -- what a run can be made of: a well-formed configuration whose cores all have a packing, an image for each of its VMs, each of at
@@ -28,7 +28,7 @@ pub record IsRunnable (input : InputData) : Type 0 where
   pub well_formed : IsWellFormed input.cfg
   pub fits : ConfigFits input.cfg
   pub rooms : FitRooms input.cfg input.images
-  pub spelled : (schedule : List ℕ) × (schedule_of schedule ≡ Some input.events)
+  pub spelled : IsSpelled input.cfg input.events
 
 -- an accepted input: the told contents are accepted with it, and it can be run
 pub record IsAccepted (call : Call) (input : InputData) : Type 0 where
@@ -92,13 +92,12 @@ Outcome call status.BadToml = Reads (command_of call.words) × IsRuled call stat
 Outcome call (status.IllConfig why) = Reads (command_of call.words) × IsRuled call (status.IllConfig why)
 Outcome call (status.TooMany core runs entries) =
     Reads (command_of call.words) × IsRuled call (status.TooMany core runs entries)
+Outcome call (status.BadSchedule line rule) =
+    IsRun (command_of call.words) × IsRuled call (status.BadSchedule line rule)
 Outcome call status.WriteFault = ForSomeInput (IsRunTo call status.WriteFault) ⊎ IsChecked call IsCut
 Outcome call status.OutOfMemory = IsOutOfMemory call
-Outcome call status.ManyVms = IsRun (command_of call.words) × IsRuled call status.ManyVms
 Outcome call (status.NotBuilt part.Words) =
     (command_of call.words ≡ Unbuilt) × IsRuled call (status.NotBuilt part.Words)
-Outcome call (status.NotBuilt part.Config) = IsRun (command_of call.words) × IsRuled call (status.NotBuilt part.Config)
-Outcome call (status.NotBuilt part.Schedule) = IsRun (command_of call.words) × IsRuled call (status.NotBuilt part.Schedule)
 Outcome call (status.NotBuilt (part.Event number)) = ForSomeInput (IsRunTo call (status.NotBuilt (part.Event number)))
 
 -- the sections of VMs, each after its own run alone on the machine

@@ -12,9 +12,8 @@ use Rattle.vm_model.specs.Flat.{Flat, flat_run, entered_count, first_unbuilt}
 use Rattle.vm_model.specs.Boot.{boot}
 use Rattle.vm_model.specs.Project.{project}
 use Rattle.bao_run.specs.Call.{InputData, SinkUse, BoardUse, IsTaken, IsCut, IsPut}
-use Rattle.vm_create.specs.Boot.{all_filled}
-use Rattle.vm_create.specs.Shape.{shape_of}
-use Rattle.bao_run.specs.Packed.{ArePacked, packings}
+use Rattle.hypervisor.specs.Shape.{shape_of}
+use Rattle.hypervisor.specs.Packed.{ArePacked, all_filled, packings}
 
 -- the machine of the model at boot, and after all events
 abbrev pub booted : InputData → Flat
@@ -36,7 +35,7 @@ pub record IsRunThrough (m : Machine) (input : InputData) : Type 0 where
   pub packed : ArePacked input.cfg m.entries
   pub entries : m.entries ≡ all_filled input.cfg.platform.cores (packings input.cfg)
   pub entered : m.entered ≡ entered_count input.cfg (booted input) input.events
-  pub state : project (booted input).powers m ≡ final input
+  pub state : project (final input).powers m ≡ final input
   pub built : first_halt input ≡ None
 
 -- the board isn't fitted, and its ports' states are as before
@@ -73,9 +72,9 @@ IsShowing cfg sink (status.TooLong file limit) = ⊥
 IsShowing cfg sink status.BadToml = ⊥
 IsShowing cfg sink (status.IllConfig why) = ⊥
 IsShowing cfg sink (status.TooMany core runs entries) = ⊥
+IsShowing cfg sink (status.BadSchedule line rule) = ⊥
 IsShowing cfg sink status.WriteFault = IsCut sink (packing_text cfg (packings cfg))
 IsShowing cfg sink status.OutOfMemory = ⊥
-IsShowing cfg sink status.ManyVms = ⊥
 IsShowing cfg sink (status.NotBuilt part) = ⊥
 
 -- by the status of a run: what it left of the board and the sink
@@ -87,10 +86,8 @@ IsPlayed input board sink (status.TooLong file limit) = ⊥
 IsPlayed input board sink status.BadToml = ⊥
 IsPlayed input board sink (status.IllConfig why) = ⊥
 IsPlayed input board sink (status.TooMany core runs entries) = ⊥
+IsPlayed input board sink (status.BadSchedule line rule) = ⊥
 IsPlayed input board sink status.WriteFault = IsCutShort input board sink
 IsPlayed input board sink status.OutOfMemory = IsStarved board sink
-IsPlayed input board sink status.ManyVms = ⊥
 IsPlayed input board sink (status.NotBuilt part.Words) = ⊥
-IsPlayed input board sink (status.NotBuilt part.Config) = ⊥
-IsPlayed input board sink (status.NotBuilt part.Schedule) = ⊥
 IsPlayed input board sink (status.NotBuilt (part.Event number)) = IsHalted number input board sink

@@ -1,4 +1,4 @@
--- What the parts of reading answer: the configuration, the packings, and the images. No public clause cites this module.
+-- What the parts of reading answer: the configuration, the packings, the images and the schedule. No public clause cites this module.
 use Rattle.std.specs.Prelude.{◌≡◌, ◌≤◌, ℕ, List, [], ◌∷◌, Vec, Some, None, Result, Ok, Err, length, map, slice_get, ⊤}
 use Rattle.std.specs.declared.alloc.Global.{Global}
 use Rattle.bao_config.specs.Answer.{spelled}
@@ -13,11 +13,13 @@ use Rattle.report.specs.declared.status.FileId.TheVariants as file
 use Rattle.report.specs.declared.status.Part.TheVariants as part
 use Rattle.report.specs.declared.status.Status.{Status}
 use Rattle.report.specs.declared.status.Status.TheVariants as status
+use Rattle.schedule.specs.declared.error.ScheduleError.{ScheduleError}
+use Rattle.schedule.specs.declared.error.ScheduleError.TheVariants as schedule_error
 use Rattle.vm_model.specs.Apart.{FitRooms}
 use Rattle.vm_create.specs.Boot.{ArePlans}
 use Rattle.bao_run.specs.Words.{Run}
 use Rattle.bao_run.specs.Call.{Files, ShelfUse, IsFaultless, HasFailed}
-use Rattle.bao_run.specs.Ruling.{Ruling, Refused, config_limit, image_limit, rule_config, rule_packing, rule_images, rule_run, rule_files}
+use Rattle.bao_run.specs.Ruling.{Ruling, Refused, config_limit, image_limit, rule_config, rule_packing, rule_images}
 use Rattle.bao_run.specs.Input.{IfHeld, files_of, first_named}
 use Rattle.bao_run.specs.declared.config.Packed.{Packed}
 
@@ -44,9 +46,9 @@ IsConfigAnswer shelf config (Err (status.TooLong file limit)) = RefusesConfig sh
 IsConfigAnswer shelf config (Err status.BadToml) = RefusesConfig shelf config status.BadToml
 IsConfigAnswer shelf config (Err (status.IllConfig why)) = RefusesConfig shelf config (status.IllConfig why)
 IsConfigAnswer shelf config (Err (status.TooMany core runs entries)) = ⊥
+IsConfigAnswer shelf config (Err (status.BadSchedule line rule)) = ⊥
 IsConfigAnswer shelf config (Err status.WriteFault) = ⊥
 IsConfigAnswer shelf config (Err status.OutOfMemory) = IsFaultless shelf
-IsConfigAnswer shelf config (Err status.ManyVms) = ⊥
 IsConfigAnswer shelf config (Err (status.NotBuilt part)) = ⊥
 
 -- all cores have a packing, so what comes after decides
@@ -96,9 +98,9 @@ IsImagesAnswer shelf config schedule cfg (Err (status.TooLong file limit)) =
 IsImagesAnswer shelf config schedule cfg (Err status.BadToml) = ⊥
 IsImagesAnswer shelf config schedule cfg (Err (status.IllConfig why)) = ⊥
 IsImagesAnswer shelf config schedule cfg (Err (status.TooMany core runs entries)) = ⊥
+IsImagesAnswer shelf config schedule cfg (Err (status.BadSchedule line rule)) = ⊥
 IsImagesAnswer shelf config schedule cfg (Err status.WriteFault) = ⊥
 IsImagesAnswer shelf config schedule cfg (Err status.OutOfMemory) = IsFaultless shelf
-IsImagesAnswer shelf config schedule cfg (Err status.ManyVms) = ⊥
 IsImagesAnswer shelf config schedule cfg (Err (status.NotBuilt part)) = ⊥
 
 -- the status of a core that has no packing
@@ -106,29 +108,27 @@ abbrev pub packing_status : ℕ → PackError → Status
 packing_status core (pack.TooMany runs entries) = status.TooMany core runs entries
 packing_status core pack.OutOfMemory = status.OutOfMemory
 
--- a configuration that is to be run is refused so, whatever the files are
-abbrev pub RefusesBuilt : ConfigData → Status → Type 0
-RefusesBuilt cfg status = (files : Files) (schedule : List ℕ) → rule_run files schedule cfg ≡ Refused status
-
--- a configuration that can be run, with its packings: images and schedule decide
-pub record IsBuilt (cfg : ConfigData) (packed : Packed) : Type 0 where
+-- a configuration whose cores all have a packing, with these
+pub record IsPackedFor (cfg : ConfigData) (packed : Packed) : Type 0 where
   pub same : checked_data packed.checked ≡ cfg
   pub plans : ArePlans cfg packed.plans.items
-  pub rules : (files : Files) (schedule : List ℕ) → rule_run files schedule cfg ≡ rule_files files schedule cfg
+  pub packable : IsPackable cfg
 
-abbrev pub IsBuiltAnswer : ConfigData → Result Packed Status → Type 0
-IsBuiltAnswer cfg (Ok packed) = IsBuilt cfg packed
-IsBuiltAnswer cfg (Err status.Done) = ⊥
-IsBuiltAnswer cfg (Err status.Usage) = ⊥
-IsBuiltAnswer cfg (Err (status.ReadFault file)) = ⊥
-IsBuiltAnswer cfg (Err (status.TooLong file limit)) = ⊥
-IsBuiltAnswer cfg (Err status.BadToml) = ⊥
-IsBuiltAnswer cfg (Err (status.IllConfig why)) = ⊥
-IsBuiltAnswer cfg (Err (status.TooMany core runs entries)) = RefusesBuilt cfg (status.TooMany core runs entries)
-IsBuiltAnswer cfg (Err status.WriteFault) = ⊥
-IsBuiltAnswer cfg (Err status.OutOfMemory) = ⊤
-IsBuiltAnswer cfg (Err status.ManyVms) = RefusesBuilt cfg status.ManyVms
-IsBuiltAnswer cfg (Err (status.NotBuilt part.Words)) = ⊥
-IsBuiltAnswer cfg (Err (status.NotBuilt part.Config)) = RefusesBuilt cfg (status.NotBuilt part.Config)
-IsBuiltAnswer cfg (Err (status.NotBuilt part.Schedule)) = ⊥
-IsBuiltAnswer cfg (Err (status.NotBuilt (part.Event number))) = ⊥
+abbrev pub IsPackedAnswer : ConfigData → Result Packed Status → Type 0
+IsPackedAnswer cfg (Ok packed) = IsPackedFor cfg packed
+IsPackedAnswer cfg (Err status.Done) = ⊥
+IsPackedAnswer cfg (Err status.Usage) = ⊥
+IsPackedAnswer cfg (Err (status.ReadFault file)) = ⊥
+IsPackedAnswer cfg (Err (status.TooLong file limit)) = ⊥
+IsPackedAnswer cfg (Err status.BadToml) = ⊥
+IsPackedAnswer cfg (Err (status.IllConfig why)) = ⊥
+IsPackedAnswer cfg (Err (status.TooMany core runs entries)) = IsOverfull cfg core (pack.TooMany runs entries)
+IsPackedAnswer cfg (Err (status.BadSchedule line rule)) = ⊥
+IsPackedAnswer cfg (Err status.WriteFault) = ⊥
+IsPackedAnswer cfg (Err status.OutOfMemory) = ⊤
+IsPackedAnswer cfg (Err (status.NotBuilt part)) = ⊥
+
+-- the status of a schedule that isn't taken
+abbrev pub schedule_status : ScheduleError → Status
+schedule_status (schedule_error.Bad line rule) = status.BadSchedule line rule
+schedule_status schedule_error.OutOfMemory = status.OutOfMemory

@@ -1,6 +1,5 @@
 -- What words and contents rule, in the order in which things are looked at.
-use Rattle.std.specs.Prelude.{ℕ, ◌+◌, ◌-◌, ◌^◌, ◌==◌, min, nat_lt, not, Bool, if◌then◌else◌, List, [], ◌∷◌, length, Option, None, Some, Result, Ok, Err}
-use Rattle.std.specs.List.{list_any}
+use Rattle.std.specs.Prelude.{ℕ, ◌+◌, ◌-◌, ◌^◌, min, nat_lt, if◌then◌else◌, List, [], ◌∷◌, length, map, Option, None, Some, Result, Ok, Err}
 use Rattle.report.specs.declared.status.FileId.{FileId}
 use Rattle.report.specs.declared.status.FileId.TheVariants as file
 use Rattle.report.specs.declared.status.Part.{Part}
@@ -15,10 +14,10 @@ use Rattle.bao_config.specs.Data.{ConfigData, VmData}
 use Rattle.bao_wellformed.specs.declared.ill.Ill.{Ill}
 use Rattle.bao_wellformed.specs.WellFormed.{first_ill}
 use Rattle.mpu_packer.specs.Runs.{core_runs}
-use Rattle.vm_model.specs.Flat.{FlatEvent}
+use Rattle.schedule.specs.Schedule.{ScheduleAnswer, Events, Broken, schedule_of}
 use Rattle.bao_run.specs.Words.{Command, Run, Check, Unbuilt, Unknown, command_of}
 use Rattle.bao_run.specs.Call.{InputData, Files}
-use Rattle.bao_run.specs.Schedule.{schedule_of}
+use Rattle.hypervisor.specs.Event.{flat_event}
 
 -- a refusal, a file that is missing, a configuration whose packing is to be shown, or an input to run
 pub data Ruling : Type 0 where
@@ -44,15 +43,15 @@ abbrev pub not_built : Part → Ruling
 not_built part = Refused (status.NotBuilt part)
 
 -- the schedule, for a configuration and its images
-abbrev pub rule_events : ConfigData → List (List ℕ) → Option (List FlatEvent) → Ruling
-rule_events cfg images None = not_built part.Schedule
-rule_events cfg images (Some events) = Accept (record { cfg = cfg; images = images; events = events })
+abbrev pub rule_events : ConfigData → List (List ℕ) → ScheduleAnswer → Ruling
+rule_events cfg images (Events events) = Accept (record { cfg = cfg; images = images; events = map flat_event events })
+rule_events cfg images (Broken line rule) = Refused (status.BadSchedule line rule)
 
 abbrev pub rule_schedule : ConfigData → List (List ℕ) → Option (List ℕ) → Ruling
 rule_schedule cfg images None = Missing file.Schedule
 rule_schedule cfg images (Some bytes) =
     if nat_lt schedule_limit (length bytes) then too_long file.Schedule schedule_limit
-    else rule_events cfg images (schedule_of bytes)
+    else rule_events cfg images (schedule_of cfg bytes)
 
 -- the image of the VM at place v, and what comes after it
 abbrev pub rule_image : (List ℕ → Ruling) → ℕ → VmData → Option (List ℕ) → Ruling
@@ -70,13 +69,6 @@ rule_images files next v (vm ∷ vms) =
 abbrev pub rule_files : Files → List ℕ → ConfigData → Ruling
 rule_files files schedule cfg = rule_images files (λ images. rule_schedule cfg images (files schedule)) 0 cfg.vms
 
--- some VM has a window on shared memory
-abbrev pub has_window : List VmData → Bool
-has_window vms = list_any (λ vm. not (length vm.ipcs == 0)) vms
-
-abbrev pub rule_built : Files → List ℕ → ConfigData → Ruling
-rule_built files schedule cfg = if has_window cfg.vms then not_built part.Config else rule_files files schedule cfg
-
 -- the cores from a number on: the first that has more runs than entries is refused
 abbrev pub rule_packing : Ruling → ConfigData → ℕ → List ℕ → Ruling
 rule_packing next cfg core [] = next
@@ -86,9 +78,7 @@ rule_packing next cfg core (most ∷ others) =
 
 -- a well-formed configuration that is to be run, or to be checked
 abbrev pub rule_run : Files → List ℕ → ConfigData → Ruling
-rule_run files schedule cfg =
-    if nat_lt 1 (length cfg.vms) then Refused status.ManyVms
-    else rule_packing (rule_built files schedule cfg) cfg 0 cfg.platform.cores
+rule_run files schedule cfg = rule_packing (rule_files files schedule cfg) cfg 0 cfg.platform.cores
 
 abbrev pub rule_check : ConfigData → Ruling
 rule_check cfg = rule_packing (Shown cfg) cfg 0 cfg.platform.cores

@@ -2,7 +2,7 @@ ghost use Rattle.std.specs.Prelude.{◌≡◌, ◌+◌, ◌<◌, IfOk, IfErr, le
 ghost use Rattle.bao_wellformed.specs.Checked.{checked_data};
 ghost use Rattle.report.specs.declared.status.Status.{Status};
 ghost use Rattle.vm_create.specs.Boot.{ArePlans};
-ghost use Rattle.bao_run.specs.Reading.{IsConfigAnswer, IsOverfull, IsPackable};
+ghost use Rattle.bao_run.specs.Reading.{IsConfigAnswer, IsOverfull, IsPackable, IsPackedAnswer, packing_status};
 ghost use Rattle.bao_run.specs.Ruling.{status_of};
 
 use crate::fetch::fetch;
@@ -63,8 +63,32 @@ fn status_of(fault: ConfigError) -> Status
     }
 }
 
+/// Packs the cores of a configuration.
+pub fn pack_checked(alloc: Global, checked: Checked) -> Result<Packed, Status>
+    ensures { IsPackedAnswer (checked_data checked) result }
+{
+    match pack_all(alloc, &checked) {
+        Ok(plans) => Ok(Packed { checked, plans }),
+        Err((core, fault)) => Err(packing_status(core, fault)),
+    }
+}
+
+/// The status of a core that has no packing.
+fn packing_status(core: u8, fault: PackError) -> Status
+    ensures { result ≡ packing_status core fault }
+{
+    match fault {
+        PackError::TooMany { runs, entries } => Status::TooMany {
+            core,
+            runs,
+            entries,
+        },
+        PackError::OutOfMemory => Status::OutOfMemory,
+    }
+}
+
 /// The packings of all cores, in their order; or the first core that has none, and why.
-pub fn pack_all(alloc: Global, checked: &Checked) -> Result<Vec<Plan>, (u8, PackError)>
+fn pack_all(alloc: Global, checked: &Checked) -> Result<Vec<Plan>, (u8, PackError)>
     ensures plans { IfOk result (λ plans. ArePlans (checked_data checked.now) plans.items) }
     ensures packable { IfOk result (λ plans. IsPackable (checked_data checked.now)) }
     ensures overfull { IfErr result (λ e. IsOverfull (checked_data checked.now) e.0 e.1) }

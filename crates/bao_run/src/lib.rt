@@ -6,15 +6,9 @@ mod config;
 mod fetch;
 mod images;
 mod input;
-mod machine;
-mod packing;
-mod reading;
-mod run;
-mod schedule;
 mod sure;
 mod top;
 mod words;
 
-pub use packing::a_core_steps_as_in_the_model;
 pub use sure::complete_over_a_sure_shelf;
 pub use top::run_bao;

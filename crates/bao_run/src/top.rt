@@ -1,29 +1,27 @@
 ghost use Rattle.std.specs.Prelude.{◌≡◌, [], map, string_bytes, length, IsTrue, false, IfOk, OnOk, OnErr};
 ghost use Rattle.bao_wellformed.specs.Checked.{checked_data};
-ghost use Rattle.board.specs.Machine.{fitted_with};
 ghost use Rattle.report.specs.Status.{is_refusal, refusal_text};
-ghost use Rattle.vm_create.specs.Boot.{ArePlans, booted};
-ghost use Rattle.vm_create.specs.Shape.{shape_of};
-ghost use Rattle.vm_model.specs.Boot.{boot_powers};
+ghost use Rattle.vm_create.specs.Boot.{ArePlans};
+ghost use Rattle.hypervisor.specs.Shape.{shape_of};
+ghost use Rattle.vm_model.specs.Project.{project};
+ghost use Rattle.hypervisor.specs.Tidy.{Tidy};
 ghost use Rattle.bao_run.specs.Call.{IsPut};
 ghost use Rattle.bao_run.specs.Input.{CanPlay, input_data};
-ghost use Rattle.bao_run.specs.Packed.{packings};
-ghost use Rattle.bao_run.specs.Play.{IsPlayed, IsShowing, IsUnfitted};
+ghost use Rattle.bao_run.specs.Play.{IsPlayed, IsShowing, IsUnfitted, booted};
 ghost use Rattle.bao_run.specs.Outcome.{Outcome};
 ghost use Rattle.bao_run.specs.Answers.{Answers};
 
 use crate::config::Packed;
 use crate::input::{Input, read_check, read_run};
-use crate::run::run;
 use crate::words::{Command, read_words};
-use arrayvec::ArrayVec;
 use bao_types::OutOfMemory;
 use board::Board;
+use core_interleave::run;
+use hypervisor::Hyp;
 use outside::{Shelf, Sink};
 use report::{Part, Status, write_packing, write_refusal, write_report};
 use std::alloc::Global;
 use vm_create::{boot, shape_for};
-use vm_model::Power;
 
 /// Does all that the program does: reads the words, which don't include the program's name, and the files that they
 /// name, boots the board, takes the events, and writes the report or the line of a refusal.
@@ -126,32 +124,30 @@ fn play<K: Sink, B: Board>(alloc: Global, sink: &mut K, board: &mut B, input: &I
       faults_after = K.faults sink.new;
     }) result }
 {
-    let powers = match start(alloc, board, input) {
-        Ok(powers) => powers,
+    let mut hyp = match start(alloc, board, input) {
+        Ok(hyp) => hyp,
         Err(OutOfMemory) => return refuse(sink, Status::OutOfMemory),
     };
-    if let Err(number) = run(board, input, &powers) {
+    if let Err(number) = run(&mut hyp, &input.packed.checked, board, &input.events) {
         let part = Part::Event(number);
         return refuse(sink, Status::NotBuilt { part });
     }
-    match write_report(sink, board, &input.packed.checked, &powers) {
+    match write_report(sink, board, &input.packed.checked, &hyp) {
         Ok(()) => Status::Done,
         Err(_) => Status::WriteFault,
     }
 }
 
-/// Fits the board for the events and boots it with the images. It answers the power of each core.
-fn start<B: Board>(
-    alloc: Global,
-    board: &mut B,
-    input: &Input,
-) -> Result<ArrayVec<Power, 8>, OutOfMemory>
+/// Fits the board for the events and boots it with the images. It answers the hypervisor for them.
+fn start<B: Board>(alloc: Global, board: &mut B, input: &Input) -> Result<Hyp, OutOfMemory>
     requires unfitted { (B.state board.old).fitted ≡ false }
+    requires quiet { (B.state board.old).console ≡ (λ port. []) }
     requires input { CanPlay input.now }
-    ensures powers { IfOk result (λ powers. powers.items ≡ boot_powers (input_data input.now).cfg) }
-    ensures board { let given = input_data input.now in
-        OnOk result (B.state board.new
-        ≡ booted given.cfg (packings given.cfg) given.images (fitted_with (shape_of given.cfg (length given.events)) (B.state board.old))) }
+    ensures tidy { IfOk result (λ hyp. Tidy (input_data input.now).cfg hyp (B.state board.new)) }
+    ensures state { IfOk result (λ hyp. project hyp.powers (B.state board.new) ≡ booted (input_data input.now)) }
+    ensures shape { OnOk result ((B.state board.new).shape
+        ≡ shape_of (input_data input.now).cfg (length (input_data input.now).events)) }
+    ensures counts { OnOk result (((B.state board.new).entered ≡ 0) × ((B.state board.new).spent ≡ 0)) }
     ensures unfitted { OnErr result (IsUnfitted (record { before = B.state board.old; after = B.state board.new })) }
 {
     let Input {

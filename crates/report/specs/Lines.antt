@@ -21,6 +21,11 @@ core_on_line j = codes "core " ++ (decimal j ++ codes " on\n")
 unfoldable pub core_off_line : ℕ → List ℕ
 core_off_line j = codes "core " ++ (decimal j ++ codes " off\n")
 
+-- `core J parked` with the syndrome's low 32 bits, the only ones that it has, and the fault address
+unfoldable pub core_parked_line : ℕ → ℕ → ℕ → List ℕ
+core_parked_line j esr far =
+    codes "core " ++ (decimal j ++ (codes " parked " ++ (hex 8 esr ++ (codes " " ++ (hex 16 far ++ newline)))))
+
 -- a register with so many digits
 unfoldable pub register_line : List ℕ → ℕ → ℕ → List ℕ
 register_line name digits value = name ++ (codes " " ++ (hex digits value ++ newline))

@@ -9,10 +9,10 @@ use Rattle.bao_wellformed.specs.declared.map.Kind.TheVariants.{Ram, Port, Window
 use Rattle.bao_wellformed.specs.Map.{kind_at}
 use Rattle.board.specs.Machine.{core_at}
 use Rattle.board.specs.View.{view_of}
-use Rattle.vm_model.specs.declared.power.Power.{Power}
-use Rattle.vm_model.specs.declared.power.Power.TheVariants.{On, Off}
+use Rattle.hypercalls.specs.declared.power.Power.{Power}
+use Rattle.hypercalls.specs.declared.power.Power.TheVariants.{On, Off, Parked}
 use Rattle.vm_model.specs.Flat.{Flat}
-use Rattle.report.specs.Lines.{vm_line, end_line, core_on_line, core_off_line, register_line, nonzero_line, x_name, console_line, memory_line, done_line}
+use Rattle.report.specs.Lines.{vm_line, end_line, core_on_line, core_off_line, core_parked_line, register_line, nonzero_line, x_name, console_line, memory_line, done_line}
 
 -- the general registers from a number on
 unfoldable pub x_text : ℕ → List ℕ → List ℕ
@@ -48,6 +48,7 @@ abbrev pub power_line : ℕ → Option Power → List ℕ
 power_line j None = core_off_line j
 power_line j (Some On) = core_on_line j
 power_line j (Some Off) = core_off_line j
+power_line j (Some (Parked esr far)) = core_parked_line j esr far
 
 -- the virtual core j, which is this physical core
 unfoldable pub core_text : Flat → ℕ → ℕ → List ℕ

@@ -14,7 +14,7 @@ use Rattle.report.specs.declared.status.Part.TheVariants as part
 use Rattle.report.specs.declared.status.Why.{Why}
 use Rattle.report.specs.declared.status.Why.TheVariants.{Shape, Value, Rule}
 use Rattle.report.specs.declared.status.Status.{Status}
-use Rattle.report.specs.declared.status.Status.TheVariants.{Done, Usage, ReadFault, TooLong, BadToml, IllConfig, TooMany, WriteFault, OutOfMemory, ManyVms, NotBuilt}
+use Rattle.report.specs.declared.status.Status.TheVariants.{Done, Usage, ReadFault, TooLong, BadToml, IllConfig, TooMany, BadSchedule, WriteFault, OutOfMemory, NotBuilt}
 
 abbrev pub file_text : FileId → List ℕ
 file_text Config = codes "config"
@@ -23,8 +23,6 @@ file_text Schedule = codes "schedule"
 
 abbrev pub part_text : Part → List ℕ
 part_text part.Words = codes "words"
-part_text part.Config = codes "config"
-part_text part.Schedule = codes "schedule"
 part_text (part.Event number) = codes "event " ++ decimal number
 
 -- a place in a list, `-` where a rule names none
@@ -50,24 +48,32 @@ why_text (Shape spot) = codes "bad shape " ++ path_of spot
 why_text (Value spot value) = codes "bad value " ++ (path_of spot ++ (codes " " ++ signed_decimal value))
 why_text (Rule ill) = ill_text ill
 
+-- `too long FILE limit N`
+abbrev pub too_long_text : FileId → ℕ → List ℕ
+too_long_text file limit = codes "too long " ++ (file_text file ++ (codes " limit " ++ decimal limit))
+
 -- `too many runs core C runs R entries N`
 abbrev pub too_many_text : ℕ → ℕ → ℕ → List ℕ
 too_many_text core runs entries =
     codes "too many runs core "
     ++ (decimal core ++ (codes " runs " ++ (decimal runs ++ (codes " entries " ++ decimal entries))))
 
+-- `bad schedule line L rule R`
+abbrev pub bad_schedule_text : ℕ → ℕ → List ℕ
+bad_schedule_text line rule = codes "bad schedule line " ++ (decimal line ++ (codes " rule " ++ decimal rule))
+
 -- the line of a refusal; the other two have none
 unfoldable pub refusal_text : Status → List ℕ
 refusal_text Done = []
 refusal_text Usage = codes "usage: run CONFIG SCHEDULE or check CONFIG or gen N\n"
 refusal_text (ReadFault file) = codes "read fault " ++ (file_text file ++ newline)
-refusal_text (TooLong file limit) = codes "too long " ++ (file_text file ++ (codes " limit " ++ (decimal limit ++ newline)))
+refusal_text (TooLong file limit) = too_long_text file limit ++ newline
 refusal_text BadToml = codes "bad toml\n"
 refusal_text (IllConfig why) = why_text why ++ newline
 refusal_text (TooMany core runs entries) = too_many_text core runs entries ++ newline
+refusal_text (BadSchedule line rule) = bad_schedule_text line rule ++ newline
 refusal_text WriteFault = []
 refusal_text OutOfMemory = codes "out of memory\n"
-refusal_text ManyVms = codes "many vms\n"
 refusal_text (NotBuilt part) = codes "not built " ++ (part_text part ++ newline)
 
 -- the exit status of the process
@@ -79,9 +85,9 @@ number_of (TooLong file limit) = 4
 number_of BadToml = 5
 number_of (IllConfig why) = 6
 number_of (TooMany core runs entries) = 7
+number_of (BadSchedule line rule) = 8
 number_of WriteFault = 9
 number_of OutOfMemory = 10
-number_of ManyVms = 11
 number_of (NotBuilt part) = 12
 
 -- the statuses that have a line of their own
@@ -93,7 +99,7 @@ is_refusal (TooLong file limit) = true
 is_refusal BadToml = true
 is_refusal (IllConfig why) = true
 is_refusal (TooMany core runs entries) = true
+is_refusal (BadSchedule line rule) = true
 is_refusal WriteFault = false
 is_refusal OutOfMemory = true
-is_refusal ManyVms = true
 is_refusal (NotBuilt part) = true

@@ -1,13 +1,13 @@
 ghost use Rattle.std.specs.Prelude.{◌≡◌, ◌+◌, ◌*◌, ◌<◌, ◌≤◌, ◌++◌, length};
 ghost use Rattle.outside.specs.Sink.{Takes, HasCause};
-ghost use Rattle.report.specs.Lines.{vm_line, end_line, register_line, nonzero_line, x_name, console_head, memory_line, newline};
+ghost use Rattle.report.specs.Lines.{vm_line, end_line, core_parked_line, register_line, nonzero_line, x_name, console_head, memory_line, newline};
 ghost use Rattle.std.specs.Fmt.{decimal};
 ghost use Rattle.report.specs.Digits.{hex};
 ghost use Rattle.report.specs.Section.{power_line};
 
 use crate::line::{Line, push_decimal, push_hex, push_hex_bytes, push_text};
+use hypercalls::Power;
 use outside::{Sink, SinkFailed};
-use vm_model::Power;
 
 /// `vm NAME`
 #[tactic(auto, unfolding(crate::specs::Lines::vm_line))]
@@ -96,7 +96,7 @@ pub fn put_nonzero<K: Sink>(sink: &mut K, name: &[u8], value: u64) -> Result<(),
     put_register(sink, name, 16, value)
 }
 
-/// `core J on` or `core J off`. A core that the machine doesn't have is off.
+/// `core J on`, `core J off` or `core J parked ESR FAR`. A core that the machine doesn't have is off.
 #[tactic(auto, unfolding(crate::specs::Lines::core_on_line, crate::specs::Lines::core_off_line))]
 pub fn put_core<K: Sink>(sink: &mut K, j: u8, power: Option<Power>) -> Result<(), SinkFailed>
     ensures taken { Takes (K.taken sink.old) (K.taken sink.new) (power_line j power) result }
@@ -105,7 +105,25 @@ pub fn put_core<K: Sink>(sink: &mut K, j: u8, power: Option<Power>) -> Result<()
     match power {
         Some(Power::On) => put_numbered(sink, b"core ", u32::from(j), b" on\n"),
         Some(Power::Off) | None => put_numbered(sink, b"core ", u32::from(j), b" off\n"),
+        Some(Power::Parked { esr, far }) => put_parked(sink, j, esr, far),
     }
+}
+
+/// `core J parked ESR FAR`, with 8 and 16 hexadecimal digits.
+#[tactic(auto, unfolding(crate::specs::Lines::core_parked_line))]
+fn put_parked<K: Sink>(sink: &mut K, j: u8, esr: u64, far: u64) -> Result<(), SinkFailed>
+    ensures taken { Takes (K.taken sink.old) (K.taken sink.new) (core_parked_line j esr far) result }
+    ensures cause { HasCause (K.faults sink.old) (K.faults sink.new) result }
+{
+    let mut line = Line::new();
+    push_text(&mut line, b"core ");
+    push_decimal(&mut line, u32::from(j));
+    push_text(&mut line, b" parked ");
+    push_hex(&mut line, 8, esr);
+    push_text(&mut line, b" ");
+    push_hex(&mut line, 16, far);
+    push_text(&mut line, b"\n");
+    sink.put(&line)
 }
 
 /// A general register, where it isn't zero.

@@ -1,7 +1,7 @@
 ghost use Rattle.std.specs.Prelude.{◌≡◌, ◌+◌, ◌≤◌, ◌++◌, IsTrue, length};
 ghost use Rattle.outside.specs.Sink.{Takes, HasCause};
 ghost use Rattle.bao_config.specs.Path.{path_of};
-ghost use Rattle.report.specs.Status.{refusal_text, is_refusal, file_text, part_text, why_text, ill_text, place_text, range_text, too_many_text};
+ghost use Rattle.report.specs.Status.{refusal_text, is_refusal, file_text, part_text, why_text, ill_text, place_text, range_text, too_long_text, too_many_text, bad_schedule_text};
 
 use crate::line::{Line, push_decimal, push_short_hex, push_signed, push_text};
 use crate::{FileId, Part, Status, Why};
@@ -37,10 +37,7 @@ fn refusal_line(status: &Status) -> Line
             push_text(&mut line, b"\n");
         }
         Status::TooLong { file, limit } => {
-            push_text(&mut line, b"too long ");
-            push_file(&mut line, *file);
-            push_text(&mut line, b" limit ");
-            push_decimal(&mut line, *limit);
+            push_too_long(&mut line, *file, *limit);
             push_text(&mut line, b"\n");
         }
         Status::BadToml => push_text(&mut line, b"bad toml\n"),
@@ -56,8 +53,11 @@ fn refusal_line(status: &Status) -> Line
             push_too_many(&mut line, *core, *runs, *entries);
             push_text(&mut line, b"\n");
         }
+        Status::BadSchedule { line: number, rule } => {
+            push_bad_schedule(&mut line, *number, *rule);
+            push_text(&mut line, b"\n");
+        }
         Status::OutOfMemory => push_text(&mut line, b"out of memory\n"),
-        Status::ManyVms => push_text(&mut line, b"many vms\n"),
         Status::NotBuilt { part } => {
             push_text(&mut line, b"not built ");
             push_part(&mut line, *part);
@@ -89,8 +89,6 @@ fn push_part(line: &mut Line, part: Part)
 {
     match part {
         Part::Words => push_text(line, b"words"),
-        Part::Config => push_text(line, b"config"),
-        Part::Schedule => push_text(line, b"schedule"),
         Part::Event(number) => {
             push_text(line, b"event ");
             push_decimal(line, number);
@@ -168,6 +166,17 @@ fn push_range(line: &mut Line, range: &ByteRange)
     push_short_hex(line, range.size);
 }
 
+fn push_too_long(line: &mut Line, file: FileId, limit: u32)
+    requires { length line.old.items ≡ 0 }
+    ensures text { line.new.items ≡ line.old.items ++ too_long_text file limit }
+    ensures len { length line.new.items ≤ 140 }
+{
+    push_text(line, b"too long ");
+    push_file(line, file);
+    push_text(line, b" limit ");
+    push_decimal(line, limit);
+}
+
 fn push_too_many(line: &mut Line, core: u8, runs: u32, entries: u8)
     requires { length line.old.items ≡ 0 }
     ensures text { line.new.items ≡ line.old.items ++ too_many_text core runs entries }
@@ -179,4 +188,15 @@ fn push_too_many(line: &mut Line, core: u8, runs: u32, entries: u8)
     push_decimal(line, runs);
     push_text(line, b" entries ");
     push_decimal(line, u32::from(entries));
+}
+
+fn push_bad_schedule(line: &mut Line, number: u32, rule: u8)
+    requires { length line.old.items ≡ 0 }
+    ensures text { line.new.items ≡ line.old.items ++ bad_schedule_text number rule }
+    ensures len { length line.new.items ≤ 140 }
+{
+    push_text(line, b"bad schedule line ");
+    push_decimal(line, number);
+    push_text(line, b" rule ");
+    push_decimal(line, u32::from(rule));
 }

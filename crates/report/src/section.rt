@@ -1,4 +1,4 @@
-ghost use Rattle.std.specs.Prelude.{◌≡◌, ℕ, ◌+◌, ◌*◌, ◌<◌, ◌≤◌, ◌++◌, true, [], ◌∷◌, All, length, slice_get};
+ghost use Rattle.std.specs.Prelude.{◌≡◌, ℕ, ◌+◌, ◌*◌, ◌<◌, ◌≤◌, ◌++◌, true, [], ◌∷◌, All, length};
 ghost use Rattle.outside.specs.Sink.{Takes, HasCause};
 ghost use Rattle.report.specs.Lines.{console_line};
 ghost use Rattle.report.specs.Digits.{hex_bytes};
@@ -20,8 +20,8 @@ use bao_config::{Config, Dev, Vm};
 use bao_types::ADDRESS_SPACE_END;
 use bao_wellformed::{Kind, MapEntry, kind_in, map_of};
 use board::{Board, CoreView};
+use hypervisor::Hyp;
 use outside::{Sink, SinkFailed};
-use vm_model::Power;
 
 /// The ports below this number are consoles.
 const CONSOLES: u8 = 8;
@@ -36,19 +36,19 @@ pub fn write_section<K: Sink, B: Board>(
     board: &B,
     config: &Config,
     vm: &Vm,
-    powers: &[Power],
+    hyp: &Hyp,
 ) -> Result<(), SinkFailed>
     requires fitted { (B.state board.now).fitted ≡ true }
     requires name { length vm.now.name ≤ 16 }
     requires cores { All (λ core. core < length (B.state board.now).shape.cores) vm.now.cores.items }
     requires space { All (λ entry. end entry.range ≤ address_space_end) (map_of (config_data config.now) (vm_data vm.now)) }
     ensures taken { Takes (K.taken sink.old) (K.taken sink.new)
-        (vm_text (config_data config.now) (project powers.now (B.state board.now)) (vm_data vm.now)) result }
+        (vm_text (config_data config.now) (project hyp.now.powers (B.state board.now)) (vm_data vm.now)) result }
     ensures cause { HasCause (K.faults sink.old) (K.faults sink.new) result }
 {
     let name = vm.name.as_str().as_bytes();
     put_vm(sink, name)?;
-    write_cores(sink, board, &vm.cores, powers)?;
+    write_cores(sink, board, &vm.cores, hyp)?;
     write_consoles(sink, board, &vm.devs)?;
     write_memory(sink, board, &map_of(config, vm))?;
     put_end(sink, name)
@@ -60,16 +60,17 @@ fn write_cores<K: Sink, B: Board>(
     sink: &mut K,
     board: &B,
     cores: &[u8],
-    powers: &[Power],
+    hyp: &Hyp,
 ) -> Result<(), SinkFailed>
     requires fitted { (B.state board.now).fitted ≡ true }
     requires cores { All (λ core. core < length (B.state board.now).shape.cores) cores.now }
     requires few { length cores.now ≤ 8 }
-    ensures taken { Takes (K.taken sink.old) (K.taken sink.new) (cores_text (project powers.now (B.state board.now)) 0 cores.now) result }
+    ensures taken { Takes (K.taken sink.old) (K.taken sink.new)
+        (cores_text (project hyp.now.powers (B.state board.now)) 0 cores.now) result }
     ensures cause { HasCause (K.faults sink.old) (K.faults sink.new) result }
 {
     for (j, core) in cores.iter().enumerate() {
-        write_core(sink, board, j as u8, *core, powers)?;
+        write_core(sink, board, j as u8, *core, hyp)?;
     }
     Ok(())
 }
@@ -81,22 +82,15 @@ fn write_core<K: Sink, B: Board>(
     board: &B,
     j: u8,
     core: u8,
-    powers: &[Power],
+    hyp: &Hyp,
 ) -> Result<(), SinkFailed>
     requires fitted { (B.state board.now).fitted ≡ true }
     requires core { core < length (B.state board.now).shape.cores }
-    ensures taken { Takes (K.taken sink.old) (K.taken sink.new) (core_text (project powers.now (B.state board.now)) j core) result }
+    ensures taken { Takes (K.taken sink.old) (K.taken sink.new) (core_text (project hyp.now.powers (B.state board.now)) j core) result }
     ensures cause { HasCause (K.faults sink.old) (K.faults sink.new) result }
 {
-    put_core(sink, j, power_of(powers, core))?;
+    put_core(sink, j, hyp.power_of_core(core))?;
     write_registers(sink, &board.core_view(core))
-}
-
-/// The power of a core, where the machine has it.
-fn power_of(powers: &[Power], core: u8) -> Option<Power>
-    ensures { result ≡ slice_get powers.now core }
-{
-    powers.get(usize::from(core)).copied()
 }
 
 /// The registers of a core.

@@ -18,8 +18,6 @@ pub enum FileId {
 pub enum Part {
     /// The command.
     Words,
-    Config,
-    Schedule,
     /// The event of this number, from 0.
     Event(u32),
 }
@@ -52,11 +50,11 @@ pub enum Status {
     IllConfig { why: Why },
     /// This core is the first that has more runs than entries.
     TooMany { core: u8, runs: u32, entries: u8 },
+    /// This line of the schedule, counted from 1, is the first that breaks a rule, and this is the first rule that it breaks.
+    BadSchedule { line: u32, rule: u8 },
     /// The text wasn't taken whole.
     WriteFault,
     OutOfMemory,
-    /// More VMs are to run than are built yet.
-    ManyVms,
     /// A part of the input isn't built yet.
     NotBuilt { part: Part },
 }
@@ -76,9 +74,9 @@ impl Status {
             Status::BadToml => 5,
             Status::IllConfig { .. } => 6,
             Status::TooMany { .. } => 7,
+            Status::BadSchedule { .. } => 8,
             Status::WriteFault => 9,
             Status::OutOfMemory => 10,
-            Status::ManyVms => 11,
             Status::NotBuilt { .. } => 12,
         }
     }

@@ -17,7 +17,7 @@ use Rattle.bao_wellformed.specs.Laws.{IsVm}
 use Rattle.bao_wellformed.proofs.Bytes.{all_reversed}
 use Rattle.bao_wellformed.proofs.Fits.{found_fits, got_fits, made_fits, picked_fit}
 use Rattle.board.specs.Machine.{is_port, is_used}
-use Rattle.vm_create.specs.Shape.{port_spot, shape_of}
+use Rattle.hypervisor.specs.Shape.{port_spot, shape_of}
 
 -- what a byte of this kind is on the board
 abbrev pub IsBackedAs : ConfigData → ℕ → ℕ → Kind → Type 0

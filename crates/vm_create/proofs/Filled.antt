@@ -7,9 +7,9 @@ use Rattle.board.specs.Machine.{Machine}
 use Rattle.bao_types.specs.declared.region.Region.{Region}
 use Rattle.bao_types.specs.Region.{no_region}
 use Rattle.bao_config.specs.Data.{ConfigData}
-use Rattle.vm_create.specs.Boot.{all_filled, filled}
+use Rattle.hypervisor.specs.Packed.{all_filled, filled}
 use Rattle.vm_create.proofs.Mixed.{length_mixed, mixed, mixed_all, mixed_next, mixed_set}
-use Rattle.vm_create.specs.Shape.{core_place, shape_of}
+use Rattle.hypervisor.specs.Shape.{core_place, shape_of}
 
 none_left : (count : ℕ) → filled count [] ≡ replicate count no_region
 none_left count = ap (λ n. replicate n no_region) (omega arith)

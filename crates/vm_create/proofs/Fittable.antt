@@ -23,7 +23,7 @@ use Rattle.bao_wellformed.proofs.Empty.{all_fail, any_got, indexed_got, left_got
 use Rattle.bao_wellformed.proofs.Kept.{IsKept, kept}
 use Rattle.board.specs.Machine.{IsFittable}
 use Rattle.vm_create.proofs.Pairs.{pair_fails}
-use Rattle.vm_create.specs.Shape.{core_place, port_spot, shape_of, used_ranges}
+use Rattle.hypervisor.specs.Shape.{core_place, port_spot, shape_of, used_ranges}
 
 -- what holds of each element of joined lists, of numbered elements, and of the ranges in use
 all_joined : {A B : Type 0} (P : B → Type 0) (f : A → List B) (xs : List A)

@@ -1,7 +1,6 @@
 pub mod Pairs
 pub mod Fittable
 pub mod Masks
-pub mod Numbered
 pub mod Mixed
 pub mod Backed
 pub mod EntryBits
@@ -9,3 +8,4 @@ pub mod Safe
 pub mod Loaded
 pub mod Filled
 pub mod Started
+pub mod Tidied

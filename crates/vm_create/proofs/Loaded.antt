@@ -21,7 +21,7 @@ use Rattle.board.specs.Machine.{AreUsed, Machine, is_used, over}
 use Rattle.vm_model.specs.Boot.{boot_bytes}
 use Rattle.mpu_packer.proofs.Owners.{vm_at}
 use Rattle.vm_model.specs.Apart.{FitRooms}
-use Rattle.vm_create.specs.Shape.{shape_of}
+use Rattle.hypervisor.specs.Shape.{shape_of}
 use Rattle.vm_create.proofs.Backed.{IsBackedAs, backed}
 
 pub image_used : (cfg : ConfigData) (events v count : ℕ) (vm : VmData) → IsWellFormed cfg → IsVm cfg v vm → count ≤ vm.place.size

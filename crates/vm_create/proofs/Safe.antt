@@ -31,7 +31,7 @@ use Rattle.mpu_packer.specs.Packing.{HasBits, IsRealised, Realises, entry_of}
 use Rattle.mpu_packer.specs.Plan.{IsPacking}
 use Rattle.mpu_packer.proofs.Granules.{all_aligned}
 use Rattle.mpu_packer.proofs.Owners.{class_granular}
-use Rattle.vm_create.specs.Shape.{shape_of}
+use Rattle.hypervisor.specs.Shape.{shape_of}
 use Rattle.vm_create.proofs.Backed.{IsBackedAs, backed}
 use Rattle.vm_create.proofs.EntryBits.{within_masks}
 

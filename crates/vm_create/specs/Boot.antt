@@ -1,16 +1,15 @@
 -- The boot of all VMs: what it is given, and how it leaves the board.
-use Rattle.std.specs.Prelude.{◌≡◌, ℕ, zero, suc, ◌-◌, ◌≤◌, List, [], ◌∷◌, ◌++◌, length, map, replicate, slice_get, Option, None, Some}
+use Rattle.std.specs.Prelude.{◌≡◌, ℕ, zero, suc, List, length, map, slice_get, Option, None, Some}
 use Rattle.bao_types.specs.declared.region.Region.{Region}
-use Rattle.bao_types.specs.Region.{no_region}
 use Rattle.bao_config.specs.Data.{ConfigData, VmData}
 use Rattle.bao_wellformed.specs.Map.{class_of}
 use Rattle.board.specs.Machine.{Machine, fitted_with}
 use Rattle.mpu_packer.specs.declared.entries.Plan.{Plan}
 use Rattle.mpu_packer.specs.Packing.{Realises}
 use Rattle.mpu_packer.specs.Plan.{IsPacking}
-use Rattle.vm_model.specs.Apart.{FitRooms}
 use Rattle.vm_model.specs.Boot.{boot_bytes, boot_cores, virtual_core}
-use Rattle.vm_create.specs.Shape.{shape_of}
+use Rattle.hypervisor.specs.Shape.{shape_of}
+use Rattle.hypervisor.specs.Packed.{all_filled}
 
 -- the board is as it was fitted with the configuration's shape, for its number of events
 abbrev pub IsFresh : ConfigData → Machine → Type 0
@@ -25,16 +24,6 @@ pub record IsPlanOf (cfg : ConfigData) (core : ℕ) (plan : Plan) : Type 0 where
 pub record ArePlans (cfg : ConfigData) (plans : List Plan) : Type 0 where
   pub count : length plans ≡ length cfg.platform.cores
   pub each : (core : ℕ) (plan : Plan) → slice_get plans core ≡ Some plan → IsPlanOf cfg core plan
-
--- the entries of a core that has so many: its packing, and zero entries after it
-abbrev pub filled : ℕ → List Region → List Region
-filled count packed = packed ++ replicate (count - length packed) no_region
-
--- of all cores; one that has no packing yet has zero entries alone
-abbrev pub all_filled : List ℕ → List (List Region) → List (List Region)
-all_filled [] packings = []
-all_filled (count ∷ counts) [] = filled count [] ∷ all_filled counts []
-all_filled (count ∷ counts) (packed ∷ packings) = filled count packed ∷ all_filled counts packings
 
 -- the entries of the plans
 abbrev pub packings_of : List Plan → List (List Region)

@@ -3,40 +3,38 @@ ghost use Rattle.bao_config.specs.Config.{config_data};
 ghost use Rattle.bao_wellformed.specs.Checked.{checked_data};
 ghost use Rattle.bao_wellformed.specs.Map.{owner};
 ghost use Rattle.board.specs.Machine.{entries_at, fitted_with};
-ghost use Rattle.vm_model.specs.Boot.{boot_bytes, boot_cores, boot_powers};
 ghost use Rattle.vm_model.specs.Apart.{FitRooms};
-ghost use Rattle.vm_create.specs.Boot.{ArePlans, IsFresh, IsPlanOf, all_filled, booted, filled, packings_of, start_of};
-ghost use Rattle.vm_create.specs.Shape.{shape_of};
+ghost use Rattle.vm_model.specs.Boot.{boot, boot_bytes, boot_cores};
+ghost use Rattle.vm_model.specs.Project.{project};
+ghost use Rattle.hypervisor.specs.Packed.{all_filled, filled};
+ghost use Rattle.hypervisor.specs.Shape.{shape_of};
+ghost use Rattle.hypervisor.specs.Tidy.{Tidy};
+ghost use Rattle.vm_create.specs.Boot.{ArePlans, IsFresh, IsPlanOf, booted, packings_of, start_of};
 
-use crate::owners::{owner, virtual_core};
-use crate::power::boot_powers;
-use arrayvec::ArrayVec;
 use bao_config::Config;
 use bao_wellformed::Checked;
 use board::Board;
+use hypervisor::{Hyp, owner, virtual_core};
 use mpu_packer::Plan;
-use vm_model::Power;
 
 /// Boots all VMs on a board that was just fitted with their configuration's shape: each image is loaded at its VM's place,
-/// each core has its packing, and the first core of each VM is about to run at the VM's start. It answers the power of
-/// each core.
-pub fn boot<B: Board>(
-    board: &mut B,
-    checked: &Checked,
-    plans: &[Plan],
-    images: &[Vec<u8>],
-) -> ArrayVec<Power, 8>
+/// each core has its packing, and the first core of each VM is about to run at the VM's start. It answers the hypervisor
+/// for them. What the ports had put out stays.
+pub fn boot<B: Board>(board: &mut B, checked: &Checked, plans: &[Plan], images: &[Vec<u8>]) -> Hyp
     requires fresh { IsFresh (checked_data checked.now) (B.state board.old) }
     requires plans { ArePlans (checked_data checked.now) plans.now }
     requires images { FitRooms (checked_data checked.now) (map (λ image. image.items) images.now) }
-    ensures powers { result.items ≡ boot_powers (checked_data checked.now) }
+    ensures tidy { Tidy (checked_data checked.now) result (B.state board.new) }
+    ensures state { let model = boot (checked_data checked.now) (map (λ image. image.items) images.now) in
+        project result.powers (B.state board.new) ≡ record model { console = (B.state board.old).console } }
+    ensures entered { (B.state board.new).entered ≡ 0 }
     ensures board { B.state board.new
         ≡ booted (checked_data checked.now) (packings_of plans.now) (map (λ image. image.items) images.now) (B.state board.old) }
 {
     load_images(board, checked, images);
     set_entries(board, checked, plans);
     start_cores(board, checked);
-    boot_powers(checked)
+    Hyp::new(checked)
 }
 
 /// Loads each image at its VM's place.

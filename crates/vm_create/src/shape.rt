@@ -6,13 +6,13 @@ ghost use Rattle.bao_config.specs.Data.{vm_data};
 ghost use Rattle.bao_wellformed.specs.Checked.{checked_data};
 ghost use Rattle.bao_wellformed.specs.Map.{has_port, owner};
 ghost use Rattle.board.specs.Machine.{IsFittable};
-ghost use Rattle.vm_create.specs.Shape.{affinity_of, core_mask, core_place, port_spot, shape_of, used_ranges};
+ghost use Rattle.hypervisor.specs.Shape.{affinity_of, core_mask, core_place, port_spot, shape_of, used_ranges};
 
-use crate::owners::{owner, virtual_core};
 use arrayvec::ArrayVec;
 use bao_config::{Config, MapRegion, Shmem, Vm};
 use bao_types::{ByteRange, CorePlace, PortSpot, Shape};
 use bao_wellformed::Checked;
+use hypervisor::{owner, virtual_core};
 
 /// The shape of the board that a configuration asks for, for so many events.
 pub fn shape_for(checked: &Checked, events: u32) -> Shape

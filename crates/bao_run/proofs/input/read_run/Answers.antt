@@ -4,12 +4,11 @@ use Rattle.outside.specs.Shelf.{Blame, IfTold}
 use Rattle.bao_wellformed.specs.Checked.{checked_data}
 use Rattle.report.specs.declared.status.FileId.TheVariants as file
 use Rattle.vm_create.specs.Boot.{ArePlans}
-use Rattle.bao_run.specs.Call.{Files}
 use Rattle.bao_run.specs.Input.{IfHeld, IsFetch}
-use Rattle.bao_run.specs.MatchSchedule.{MatchStatus, Reads}
-use Rattle.bao_run.specs.Ruling.{rule_run, rule_files, schedule_limit}
-use Rattle.bao_run.specs.Schedule.{flat_event}
-use Rattle.bao_run.specs.Reading.{HoldsConfig, AreImages, IsImagesAnswer}
+use Rattle.schedule.specs.Answer.{TellsBroken}
+use Rattle.schedule.specs.Schedule.{Events, schedule_of}
+use Rattle.bao_run.specs.Ruling.{schedule_limit}
+use Rattle.bao_run.specs.Reading.{HoldsConfig, AreImages, IsImagesAnswer, IsPackable}
 use Rattle.bao_run.proofs.Inputs.{run_config_refused, images_refused, schedule_refused, events_refused, accepts}
 use Rattle.bao_run.proofs.input.read_run.Goals as goal
 
@@ -27,20 +26,19 @@ returns-in_err-images-clause-answer g c =
     let config = c.args.config.now in
     let schedule = c.args.schedule.now in
     let cfg = checked_data c.in_ok-packed.packed.checked in
-    let built = c.in_ok-packed.ensures in
+    let packed_for = c.in_ok-packed.ensures in
     let start : Blame = record { faults = g.S.Shelf.faults c.args.shelf.now; culprit = g.S.Shelf.culprit c.args.shelf.now } in
     let mid : Blame = record { faults = g.S.Shelf.faults c.read_checked.new.shelf; culprit = g.S.Shelf.culprit c.read_checked.new.shelf } in
     let new : Blame = record { faults = g.S.Shelf.faults c.read_images.new.shelf; culprit = g.S.Shelf.culprit c.read_images.new.shelf } in
     let holds : IfHeld held (λ files. HoldsConfig files config cfg) =
-    subst (λ cfg. IfHeld held (λ files. HoldsConfig files config cfg)) (sym built.same) c.in_ok-checked.ensures.answer.0 in
-    let rules_of : (files : Files) → rule_run files schedule cfg ≡ rule_files files schedule cfg =
-    λ files. subst (λ cfg. rule_run files schedule cfg ≡ rule_files files schedule cfg) (sym built.same) (built.rules files schedule) in
+    subst (λ cfg. IfHeld held (λ files. HoldsConfig files config cfg)) (sym packed_for.same) c.in_ok-checked.ensures.answer.0 in
+    let packable = subst IsPackable (sym packed_for.same) packed_for.packable in
     let failed = c.in_err-images.field-0.0 in
     let answer = subst (λ held. IsImagesAnswer (record { held = held; before = mid; after = new }) config schedule cfg (Err failed))
     c.read_checked.ensures.held c.in_err-images.ensures.answer in
     let same : c.from_residual-in_err-images.result ≡ Err failed = search rules in
     rw same
-    (images_refused (record { held = held; before = mid; after = new }) config schedule cfg holds rules_of start c.in_ok-checked.ensures.answer.1 failed answer)
+    (images_refused (record { held = held; before = mid; after = new }) config schedule cfg holds packable start c.in_ok-checked.ensures.answer.1 failed answer)
 
 pub returns-in_err-lines-clause-answer : goal.returns-in_err-lines-clause-answer
 returns-in_err-lines-clause-answer g c =
@@ -48,15 +46,14 @@ returns-in_err-lines-clause-answer g c =
     let config = c.args.config.now in
     let schedule = c.args.schedule.now in
     let cfg = checked_data c.in_ok-packed.packed.checked in
-    let built = c.in_ok-packed.ensures in
+    let packed_for = c.in_ok-packed.ensures in
     let images = items_of c.in_ok-images.images.items in
     let start : Blame = record { faults = g.S.Shelf.faults c.args.shelf.now; culprit = g.S.Shelf.culprit c.args.shelf.now } in
     let mid : Blame = record { faults = g.S.Shelf.faults c.read_images.new.shelf; culprit = g.S.Shelf.culprit c.read_images.new.shelf } in
     let new : Blame = record { faults = g.S.Shelf.faults c.fetch.new.shelf; culprit = g.S.Shelf.culprit c.fetch.new.shelf } in
     let holds : IfHeld held (λ files. HoldsConfig files config cfg) =
-    subst (λ cfg. IfHeld held (λ files. HoldsConfig files config cfg)) (sym built.same) c.in_ok-checked.ensures.answer.0 in
-    let rules_of : (files : Files) → rule_run files schedule cfg ≡ rule_files files schedule cfg =
-    λ files. subst (λ cfg. rule_run files schedule cfg ≡ rule_files files schedule cfg) (sym built.same) (built.rules files schedule) in
+    subst (λ cfg. IfHeld held (λ files. HoldsConfig files config cfg)) (sym packed_for.same) c.in_ok-checked.ensures.answer.0 in
+    let packable = subst IsPackable (sym packed_for.same) packed_for.packable in
     let has = c.in_ok-images.ensures.answer in
     let told = subst (λ held. IfHeld held (λ files. AreImages files cfg.vms images)) c.read_checked.ensures.held has.told in
     let failed = c.in_err-lines.field-0.0 in
@@ -65,67 +62,65 @@ returns-in_err-lines-clause-answer g c =
     (c.read_images.ensures.held ∙ c.read_checked.ensures.held) c.in_err-lines.ensures.answer in
     let same : c.from_residual-in_err-lines.result ≡ Err failed = search rules in
     rw same
-    (schedule_refused (record { held = held; before = mid; after = new }) config schedule cfg holds rules_of start
+    (schedule_refused (record { held = held; before = mid; after = new }) config schedule cfg holds packable start
     (has.read ∙ c.in_ok-checked.ensures.answer.1) images has.rooms.count told c.first_named-blamed.result c.first_named-blamed.ensures failed answer)
 
-pub returns-in_err-events-clause-answer : goal.returns-in_err-events-clause-answer
-returns-in_err-events-clause-answer g c =
+pub returns-in-Err-clause-answer : goal.returns-in-Err-clause-answer
+returns-in-Err-clause-answer g c =
     let held = g.S.Shelf.held c.args.shelf.now in
     let config = c.args.config.now in
     let schedule = c.args.schedule.now in
     let cfg = checked_data c.in_ok-packed.packed.checked in
-    let built = c.in_ok-packed.ensures in
+    let packed_for = c.in_ok-packed.ensures in
     let images = items_of c.in_ok-images.images.items in
     let start : Blame = record { faults = g.S.Shelf.faults c.args.shelf.now; culprit = g.S.Shelf.culprit c.args.shelf.now } in
     let mid : Blame = record { faults = g.S.Shelf.faults c.read_images.new.shelf; culprit = g.S.Shelf.culprit c.read_images.new.shelf } in
     let new : Blame = record { faults = g.S.Shelf.faults c.fetch.new.shelf; culprit = g.S.Shelf.culprit c.fetch.new.shelf } in
     let holds : IfHeld held (λ files. HoldsConfig files config cfg) =
-    subst (λ cfg. IfHeld held (λ files. HoldsConfig files config cfg)) (sym built.same) c.in_ok-checked.ensures.answer.0 in
-    let rules_of : (files : Files) → rule_run files schedule cfg ≡ rule_files files schedule cfg =
-    λ files. subst (λ cfg. rule_run files schedule cfg ≡ rule_files files schedule cfg) (sym built.same) (built.rules files schedule) in
+    subst (λ cfg. IfHeld held (λ files. HoldsConfig files config cfg)) (sym packed_for.same) c.in_ok-checked.ensures.answer.0 in
+    let packable = subst IsPackable (sym packed_for.same) packed_for.packable in
     let has = c.in_ok-images.ensures.answer in
     let told = subst (λ held. IfHeld held (λ files. AreImages files cfg.vms images)) c.read_checked.ensures.held has.told in
     let lines = c.in_ok-lines.lines.items in
     let content = subst (λ held. IfTold held schedule (λ content. content ≡ Some lines)) (c.read_images.ensures.held ∙ c.read_checked.ensures.held)
     c.in_ok-lines.ensures.answer.0 in
-    let failed = c.in_err-events.field-0.0 in
-    let answer = subst (λ (bytes : List ℕ). MatchStatus bytes failed) c.deref.ensures.value c.in_err-events.ensures in
-    let same : c.from_residual-in_err-events.result ≡ Err failed = search rules in
-    rw same
-    (events_refused (record { held = held; before = mid; after = new }) config schedule cfg holds rules_of start
+    let fault = c.in-Err.fault in
+    let answer = subst (λ (bytes : List ℕ). TellsBroken (schedule_of cfg bytes) fault) c.deref.ensures.value c.in-Err.ensures.answer in
+    rw c.schedule_status.ensures
+    (events_refused (record { held = held; before = mid; after = new }) config schedule cfg holds packable start
     (has.read ∙ c.in_ok-checked.ensures.answer.1) images has.rooms.count told lines content c.in_ok-lines.ensures.answer.1
-    c.in_ok-lines.ensures.answer.2 failed answer)
+    c.in_ok-lines.ensures.answer.2 fault answer)
 
-pub returns-clause-answer : goal.returns-clause-answer
-returns-clause-answer g c =
+pub returns-in-Ok-clause-answer : goal.returns-in-Ok-clause-answer
+returns-in-Ok-clause-answer g c =
     let held = g.S.Shelf.held c.args.shelf.now in
     let config = c.args.config.now in
     let schedule = c.args.schedule.now in
     let cfg = checked_data c.in_ok-packed.packed.checked in
-    let built = c.in_ok-packed.ensures in
+    let packed_for = c.in_ok-packed.ensures in
     let images = items_of c.in_ok-images.images.items in
     let start : Blame = record { faults = g.S.Shelf.faults c.args.shelf.now; culprit = g.S.Shelf.culprit c.args.shelf.now } in
     let mid : Blame = record { faults = g.S.Shelf.faults c.read_images.new.shelf; culprit = g.S.Shelf.culprit c.read_images.new.shelf } in
     let new : Blame = record { faults = g.S.Shelf.faults c.fetch.new.shelf; culprit = g.S.Shelf.culprit c.fetch.new.shelf } in
     let holds : IfHeld held (λ files. HoldsConfig files config cfg) =
-    subst (λ cfg. IfHeld held (λ files. HoldsConfig files config cfg)) (sym built.same) c.in_ok-checked.ensures.answer.0 in
-    let rules_of : (files : Files) → rule_run files schedule cfg ≡ rule_files files schedule cfg =
-    λ files. subst (λ cfg. rule_run files schedule cfg ≡ rule_files files schedule cfg) (sym built.same) (built.rules files schedule) in
+    subst (λ cfg. IfHeld held (λ files. HoldsConfig files config cfg)) (sym packed_for.same) c.in_ok-checked.ensures.answer.0 in
+    let packable = subst IsPackable (sym packed_for.same) packed_for.packable in
     let has = c.in_ok-images.ensures.answer in
     let told = subst (λ held. IfHeld held (λ files. AreImages files cfg.vms images)) c.read_checked.ensures.held has.told in
     let lines = c.in_ok-lines.lines.items in
     let content = subst (λ held. IfTold held schedule (λ content. content ≡ Some lines)) (c.read_images.ensures.held ∙ c.read_checked.ensures.held)
     c.in_ok-lines.ensures.answer.0 in
-    let read = subst (λ (bytes : List ℕ). Reads bytes c.in_ok-events.events.items) c.deref.ensures.value c.in_ok-events.ensures in
+    let events = c.in-Ok.events.items in
+    let spelled = subst (λ (bytes : List ℕ). schedule_of cfg bytes ≡ Events events) c.deref.ensures.value c.in-Ok.ensures.answer in
     record {
-      told = accepts (record { held = held; before = mid; after = new }) config schedule cfg holds rules_of start
+      told = accepts (record { held = held; before = mid; after = new }) config schedule cfg holds packable start
           (has.read ∙ c.in_ok-checked.ensures.answer.1) images has.rooms.count told lines content c.in_ok-lines.ensures.answer.1
-          c.in_ok-lines.ensures.answer.2 (map flat_event c.in_ok-events.events.items) read.spelled;
-      spelled = (lines, read.spelled);
+          c.in_ok-lines.ensures.answer.2 events spelled;
+      spelled = (lines, spelled);
       playable = record {
-        plans = subst (λ cfg. ArePlans cfg c.in_ok-packed.packed.plans.items) (sym built.same) built.plans;
+        plans = subst (λ cfg. ArePlans cfg c.in_ok-packed.packed.plans.items) (sym packed_for.same) packed_for.plans;
         rooms = has.rooms;
-        own = read.own;
-        few = read.few;
+        placed = c.in-Ok.ensures.lawful.placed;
+        few = c.in-Ok.ensures.lawful.few;
       };
     }

@@ -1,16 +1,39 @@
-use Rattle.std.proofs.Common.{◌∙◌, ap, length}
-use Rattle.bao_types.specs.Shape.{ShapeData}
-use Rattle.bao_wellformed.specs.Checked.{checked_data}
-use Rattle.bao_run.proofs.Booted.{core_count, ready_booted}
+use Rattle.std.proofs.Common.{◌∙◌, List, map, ap, subst}
+use Rattle.outside.specs.Sink.{grown, TakesPart}
+use Rattle.report.specs.Section.{report}
+use Rattle.vm_model.specs.Flat.{Flat}
+use Rattle.hypervisor.specs.Event.{flat_event}
+use Rattle.hypervisor.specs.declared.event.Event.{Event}
+use Rattle.bao_run.specs.Input.{input_data}
+use Rattle.bao_run.proofs.Played.{final_of, run_through}
 use Rattle.bao_run.proofs.top.play.Goals as goal
 
-pub run-requires-clause-ready : goal.run-requires-clause-ready
-run-requires-clause-ready g c =
-    let input = c.args.input.now in
-    ready_booted (checked_data input.packed.checked) c.deref.result.now (g.B.Board.state c.start.new.board) (g.B.Board.state c.args.board.now)
-    _ input.packed.plans.items _ c.in-Ok.ensures.board (c.deref.ensures.0 ∙ c.in-Ok.ensures.powers) input.packed.checked.well_formed
-    c.requires.input.plans
+pub returns-in-Ok-write_report : goal.returns-in-Ok-write_report
+returns-in-Ok-write_report g c =
+    let input = c.args.input.now in let given = input_data input in let hyp = c.run.new.hyp in let m = g.B.Board.state c.run.new.board in
+    let same = ap (λ (events : List Event). map flat_event events) c.deref.ensures.value in
+    let ran = c.in_default.ensures in
+    record {
+      board = run_through given _ c.in-Ok.ensures.state _ same hyp m ran.state input.packed.checked.well_formed input.packed.checked.config.fits
+          ran.tidy (ran.shape ∙ c.in-Ok.ensures.shape) _ c.in-Ok.ensures.counts.0 ran.entered ran.built;
+      text = (
+        c.in-Ok-write_report.ensures.taken
+            ∙ ap (λ (f : Flat). grown (g.K.Sink.taken c.args.sink.now) (report given.cfg f)) (final_of given _ c.in-Ok.ensures.state _ same hyp m ran.state),
+        c.in-Ok-write_report.ensures.cause,
+      );
+    }
 
-pub write_report-requires-clause-cores : goal.write_report-requires-clause-cores
-write_report-requires-clause-cores g c =
-    ap (λ (shape : ShapeData). length shape.cores) c.run.ensures.ready.shape ∙ core_count (checked_data c.args.input.now.packed.checked) (g.B.Board.state c.run.new.board).shape.events
+pub returns-in-Err-write_report : goal.returns-in-Err-write_report
+returns-in-Err-write_report g c =
+    let input = c.args.input.now in let given = input_data input in let hyp = c.run.new.hyp in let m = g.B.Board.state c.run.new.board in
+    let same = ap (λ (events : List Event). map flat_event events) c.deref.ensures.value in
+    let ran = c.in_default.ensures in
+    record {
+      board = run_through given _ c.in-Ok.ensures.state _ same hyp m ran.state input.packed.checked.well_formed input.packed.checked.config.fits
+          ran.tidy (ran.shape ∙ c.in-Ok.ensures.shape) _ c.in-Ok.ensures.counts.0 ran.entered ran.built;
+      text = (
+        subst (λ (f : Flat). TakesPart (g.K.Sink.taken c.args.sink.now) (g.K.Sink.taken c.write_report.new.sink) (report given.cfg f))
+            (final_of given _ c.in-Ok.ensures.state _ same hyp m ran.state) c.in-Err-write_report.ensures.taken,
+        c.in-Err-write_report.ensures.cause,
+      );
+    }

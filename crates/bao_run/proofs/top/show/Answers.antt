@@ -3,8 +3,8 @@ use Rattle.bao_wellformed.specs.Checked.{checked_data}
 use Rattle.outside.specs.Sink.{grown, TakesPart}
 use Rattle.report.specs.Packing.{packing_text}
 use Rattle.vm_create.specs.Boot.{packings_of}
-use Rattle.bao_run.specs.Packed.{packings}
-use Rattle.bao_run.proofs.Packs.{packings_are}
+use Rattle.hypervisor.specs.Packed.{packings}
+use Rattle.vm_create.proofs.Tidied.{packings_are}
 use Rattle.bao_run.proofs.top.show.Goals as goal
 
 pub returns-in-Ok : goal.returns-in-Ok

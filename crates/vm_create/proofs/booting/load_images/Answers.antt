@@ -4,7 +4,7 @@ use Rattle.bao_config.specs.declared.config.Vm.{Vm}
 use Rattle.bao_wellformed.specs.Checked.{checked_data}
 use Rattle.board.specs.Machine.{Machine, over}
 use Rattle.vm_model.specs.Boot.{boot_bytes}
-use Rattle.vm_create.specs.Shape.{shape_of}
+use Rattle.hypervisor.specs.Shape.{shape_of}
 use Rattle.vm_create.proofs.Loaded.{are_used, boot_bytes_none, turn_bytes, turn_used, with_bytes}
 use Rattle.vm_create.proofs.booting.load_images.Goals as goal
 

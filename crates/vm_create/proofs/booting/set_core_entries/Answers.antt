@@ -5,8 +5,8 @@ use Rattle.bao_types.specs.Region.{IsWithinMasks, no_region}
 use Rattle.bao_types.specs.Shape.{ShapeData}
 use Rattle.bao_wellformed.specs.Checked.{checked_data}
 use Rattle.board.specs.Machine.{IsSafeEntry, Machine, entries_at}
-use Rattle.vm_create.specs.Boot.{filled}
-use Rattle.vm_create.specs.Shape.{shape_of}
+use Rattle.hypervisor.specs.Packed.{filled}
+use Rattle.hypervisor.specs.Shape.{shape_of}
 use Rattle.vm_create.proofs.Filled.{core_within, index_within, own_more, take_whole, with_entries}
 use Rattle.vm_create.proofs.Safe.{plan_is_safe, plan_within_masks}
 use Rattle.vm_create.proofs.booting.set_core_entries.Goals as goal

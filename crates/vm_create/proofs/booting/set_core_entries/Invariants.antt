@@ -1,6 +1,6 @@
 use Rattle.std.proofs.Common.{◌≡◌, length, take, slice_set}
 use Rattle.board.specs.Machine.{entries_at}
-use Rattle.vm_create.specs.Boot.{filled}
+use Rattle.hypervisor.specs.Packed.{filled}
 use Rattle.vm_create.proofs.booting.set_core_entries.Given as goal
 
 abbrev pub invariant-loop-index : goal.invariant-loop-index

@@ -8,7 +8,8 @@ use Rattle.bao_wellformed.proofs.Empty.{map_got}
 use Rattle.board.specs.Machine.{Machine, entries_at}
 use Rattle.mpu_packer.specs.declared.entries.Plan.{Plan}
 use Rattle.mpu_packer.specs.Packing.{entry_of}
-use Rattle.vm_create.specs.Boot.{filled, packings_of}
+use Rattle.hypervisor.specs.Packed.{filled}
+use Rattle.vm_create.specs.Boot.{packings_of}
 use Rattle.vm_create.proofs.Filled.{entries_within, next_count, next_filled, next_none, none_filled, whole_filled, with_entries}
 use Rattle.vm_create.proofs.booting.set_entries.Goals as goal
 

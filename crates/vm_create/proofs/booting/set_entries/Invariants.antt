@@ -1,6 +1,7 @@
 use Rattle.std.proofs.Common.{◌≡◌, []}
 use Rattle.bao_wellformed.specs.Checked.{checked_data}
-use Rattle.vm_create.specs.Boot.{all_filled, packings_of}
+use Rattle.hypervisor.specs.Packed.{all_filled}
+use Rattle.vm_create.specs.Boot.{packings_of}
 use Rattle.vm_create.proofs.Mixed.{mixed}
 use Rattle.vm_create.proofs.booting.set_entries.Given as goal
 

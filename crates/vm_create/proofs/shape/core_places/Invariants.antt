@@ -1,7 +1,7 @@
 use Rattle.std.proofs.Common.{◌≡◌, ◌++◌, length, map, drop}
 use Rattle.std.specs.List.{enumerate_from}
 use Rattle.bao_config.specs.Config.{config_data}
-use Rattle.vm_create.specs.Shape.{core_place}
+use Rattle.hypervisor.specs.Shape.{core_place}
 use Rattle.vm_create.proofs.shape.core_places.Given as goal
 
 abbrev pub invariant-loop-core : goal.invariant-loop-core

@@ -1,6 +1,6 @@
 use Rattle.std.proofs.Common.{◌≡◌, map, take}
 use Rattle.bao_wellformed.specs.Checked.{checked_data}
-use Rattle.vm_create.specs.Shape.{port_spot}
+use Rattle.hypervisor.specs.Shape.{port_spot}
 use Rattle.vm_create.proofs.shape.port_spots.Given as goal
 
 abbrev pub invariant-loop-port : goal.invariant-loop-port

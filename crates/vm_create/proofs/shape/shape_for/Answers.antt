@@ -2,7 +2,7 @@ use Rattle.std.proofs.Common.{◌≡◌, rules, sym, subst}
 use Rattle.bao_types.specs.Shape.{shape_data}
 use Rattle.bao_wellformed.specs.Checked.{checked_data}
 use Rattle.board.specs.Machine.{IsFittable}
-use Rattle.vm_create.specs.Shape.{shape_of}
+use Rattle.hypervisor.specs.Shape.{shape_of}
 use Rattle.vm_create.proofs.Fittable.{shape_fits}
 use Rattle.vm_create.proofs.shape.shape_for.Goals as goal
 
