@@ -3,10 +3,11 @@
 use crate::samples::{changed, checked};
 use bao_types::Shape;
 use bao_wellformed::Checked;
+use hypercalls::Power;
+use hypervisor::Hyp;
 use std::alloc::{AllocError, Global};
 use std::process::Abort;
-use vm_create::{boot_powers, shape_for};
-use vm_model::Power;
+use vm_create::shape_for;
 
 /// What a row shows, the changes of the sample, and what is said of the shape for that many events: the banks, the cores by
 /// entries and affinity, the ports with their masks, the used ranges and the events, then the powers.
@@ -46,11 +47,21 @@ fn places_text(alloc: Global, shape: &Shape) -> Result<String, AllocError> {
 }
 
 fn powers_text(alloc: Global, checked: &Checked) -> Result<String, AllocError> {
+    let hyp = Hyp::new(checked);
     let mut text = String::new(alloc);
-    for power in boot_powers(checked).as_slice() {
-        let word = match power {
-            Power::On => " on",
-            Power::Off => " off",
+    for (core, _) in checked
+        .config()
+        .platform
+        .cores
+        .as_slice()
+        .iter()
+        .enumerate()
+    {
+        let word = match hyp.power_of_core(core as u8) {
+            Some(Power::On) => " on",
+            Some(Power::Off) => " off",
+            Some(Power::Parked { .. }) => " parked",
+            None => " none",
         };
         text.push_str(word)?;
     }

@@ -124,26 +124,37 @@ end a
 done
 ";
 
-/// Schedules over `b .`, and how many steps they are; none, where they are no schedule.
+/// Schedules over `b .`: how many steps are taken, the status, and the text.
 #[rattlefmt::skip]
-static SCHEDULES: [(&str, Option<u32>); 16] = [
-    // schedule              steps
-    ("",                     Some(0)),
-    ("s 0 0\n",              Some(1)),
-    ("s 0 9\n",              Some(1)),
-    ("s 0 3\ns 0 3\n",       Some(2)),
-    ("s 0 3\ns 0 4\n",       Some(2)),
-    ("s 0 4\ns 0 3\n",       None),
-    ("s 0 0",                None),
-    ("\n",                   None),
-    ("# comment\n",          None),
-    ("s 1 0\n",              None),
-    ("s 0 00\n",             None),
-    ("s 0 10\n",             None),
-    ("i 0 0\n",              None),
-    ("s  0 0\n",             None),
-    ("s 0 0\r\n",            None),
-    ("s 0 0\ns 0 0",         None),
+static SCHEDULES: [(&str, u32, u8, &str); 27] = [
+    // schedule                           steps status  text
+    ("",                                  0,    0,      FOREVER_REPORT),
+    ("s 0 0\n",                           1,    0,      FOREVER_REPORT),
+    ("s 0 3\ns 0 3\n",                    2,    0,      FOREVER_REPORT),
+    ("s 0 3\ns 0 4\n",                    2,    0,      FOREVER_REPORT),
+    ("s 0 10\n",                          1,    0,      FOREVER_REPORT),
+    ("s 0 18446744073709551615\n",        1,    0,      FOREVER_REPORT),
+    ("\n",                                0,    0,      FOREVER_REPORT),
+    ("# comment\n",                       0,    0,      FOREVER_REPORT),
+    ("#\r\n\ns 0 1\n#s 0 0\n",           1,    0,      FOREVER_REPORT),
+    ("s 0 0",                             0,    8,      "bad schedule line 1 rule 1\n"),
+    ("# comment",                         0,    8,      "bad schedule line 1 rule 1\n"),
+    ("s 0 0\ns 0 0",                      0,    8,      "bad schedule line 2 rule 1\n"),
+    ("s 0 00\n",                          0,    8,      "bad schedule line 1 rule 1\n"),
+    ("s  0 0\n",                          0,    8,      "bad schedule line 1 rule 1\n"),
+    ("s 0 0\r\n",                         0,    8,      "bad schedule line 1 rule 1\n"),
+    ("S 0 0\n",                           0,    8,      "bad schedule line 1 rule 1\n"),
+    ("s 0 18446744073709551616\n",        0,    8,      "bad schedule line 1 rule 1\n"),
+    ("i 0 256\n",                         0,    8,      "bad schedule line 1 rule 1\n"),
+    ("i 99 256\n",                        0,    8,      "bad schedule line 1 rule 1\n"),
+    ("s 1 0\n",                           0,    8,      "bad schedule line 1 rule 2\n"),
+    ("s 18446744073709551615 0\n",        0,    8,      "bad schedule line 1 rule 2\n"),
+    ("i 1 0\n",                           0,    8,      "bad schedule line 1 rule 3\n"),
+    ("i 16 0\n",                          0,    8,      "bad schedule line 1 rule 3\n"),
+    ("s 0 5\ns 0 4\n",                    0,    8,      "bad schedule line 2 rule 4\n"),
+    ("# a\n\ns 0 1\n# b\ns 0 0\n",        0,    8,      "bad schedule line 5 rule 4\n"),
+    ("i 0 0\n",                           0,    12,     "not built event 0\n"),
+    ("# a\ns 0 0\ns 0 0\ni 0 0\n",        2,    12,     "not built event 2\n"),
 ];
 
 fn check_schedule(
@@ -151,14 +162,11 @@ fn check_schedule(
     alloc: Global,
     shows: &str,
     schedule: &[u8],
-    entered: Option<u32>,
+    entered: u32,
+    status: u8,
+    text: &str,
 ) -> Result<(), Fail> {
-    let wanted = match entered {
-        Some(entered) => {
-            format!(in alloc; "status 0 entered {entered} calls 3 faults 0\n{FOREVER_REPORT}")?
-        }
-        None => { format!(in alloc; "status 12 entered 0 calls 3 faults 0\nnot built schedule\n")? }
-    };
+    let wanted = format!(in alloc; "status {status} entered {entered} calls 3 faults 0\n{text}")?;
     let image = image_of(alloc, &FOREVER)?;
     let mut shelf = sample_shelf(alloc, &image, schedule)?;
     check(rt, shows, &told(alloc, &RUN, &mut shelf, &[])?, &wanted);
@@ -167,8 +175,9 @@ fn check_schedule(
 
 #[test]
 fn schedules(rt: HostRuntime) -> Result<(), Fail> {
-    for (schedule, entered) in SCHEDULES.as_slice() {
-        check_schedule(&rt, rt.alloc(), schedule, schedule.as_bytes(), *entered)?;
+    for (schedule, entered, status, text) in SCHEDULES.as_slice() {
+        let bytes = schedule.as_bytes();
+        check_schedule(&rt, rt.alloc(), schedule, bytes, *entered, *status, text)?;
     }
     Ok(())
 }
@@ -178,9 +187,18 @@ fn schedules(rt: HostRuntime) -> Result<(), Fail> {
 fn a_million_events(rt: HostRuntime) -> Result<(), Fail> {
     let alloc = rt.alloc();
     let mut schedule = steps(alloc, 1_000_000)?;
-    check_schedule(&rt, alloc, "a million", &schedule, Some(1_000_000))?;
+    check_schedule(
+        &rt,
+        alloc,
+        "a million",
+        &schedule,
+        1_000_000,
+        0,
+        FOREVER_REPORT,
+    )?;
     schedule.extend_from_slice(b"s 0 0\n")?;
-    check_schedule(&rt, alloc, "a million and one", &schedule, None)
+    let refusal = "bad schedule line 1000001 rule 5\n";
+    check_schedule(&rt, alloc, "a million and one", &schedule, 0, 8, refusal)
 }
 
 /// Lengths of the files in bytes, 0 for a configuration that is the sample and others for a comment, and the answer.
@@ -192,7 +210,7 @@ static LIMITS: [(&str, usize, usize, usize, &str); 6] = [
     ("an image too long",        0,      32_769, 0,          "status 4 entered 0 calls 2 faults 0\ntoo long image 0 limit 32768\n"),
     ("one just not too long",    0,      32_768, 0,          "status 0 entered 0 calls 3 faults 0\nvm a\ncore 0 on\npc 0000000000100000\npstate 000003c5\nconsole 0=\nend a\ndone\n"),
     ("a schedule too long",      0,      8,      33_554_433, "status 4 entered 0 calls 3 faults 0\ntoo long schedule limit 33554432\n"),
-    ("one just not too long",    0,      8,      33_554_432, "status 12 entered 0 calls 3 faults 0\nnot built schedule\n"),
+    ("one just not too long",    0,      8,      33_554_432, "status 8 entered 0 calls 3 faults 0\nbad schedule line 1 rule 1\n"),
 ];
 
 fn check_limit(

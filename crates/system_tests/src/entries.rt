@@ -5,7 +5,7 @@ ghost use Rattle.bao_types.specs.Shape.{shape_data};
 ghost use Rattle.bao_types.specs.Region.{IsWithinMasks};
 ghost use Rattle.board.specs.Machine.{IsSafeEntry};
 ghost use Rattle.system_tests.specs.Sample.{sample};
-ghost use Rattle.vm_create.specs.Shape.{shape_of};
+ghost use Rattle.hypervisor.specs.Shape.{shape_of};
 
 use bao_types::{ByteRange, CorePlace, OutOfMemory, PortSpot, Region, Shape};
 use board::{Board, Exit};
@@ -66,8 +66,18 @@ fn shape() -> Shape
     shape
 }
 
-/// Lets a core take the three steps of `PROGRAM` over the lower half and such an upper half, and answers their exits.
-fn play<B: Board>(alloc: Global, board: &mut B, upper: Region) -> Result<[Exit; 3], OutOfMemory>
+/// `hvc #1`, `smc #2` and `nop`.
+const CALLS: [u8; 12] = [
+    0x22, 0x00, 0x00, 0xd4, 0x43, 0x00, 0x00, 0xd4, 0x1f, 0x20, 0x03, 0xd5,
+];
+
+/// Lets a core take three steps of a program over the lower half and such an upper half, and answers their exits.
+fn play<B: Board>(
+    alloc: Global,
+    board: &mut B,
+    program: &[u8; 12],
+    upper: Region,
+) -> Result<[Exit; 3], OutOfMemory>
     requires unfitted { (B.state board.old).fitted ≡ false }
     requires bits { IsWithinMasks upper }
     requires safe { IsSafeEntry (shape_of sample 8) upper }
@@ -75,7 +85,7 @@ fn play<B: Board>(alloc: Global, board: &mut B, upper: Region) -> Result<[Exit; 
     ensures shape { OnOk result ((B.state board.new).shape ≡ shape_of sample 8) }
 {
     board.fit(alloc, &shape())?;
-    board.load(0x10_0000, &PROGRAM);
+    board.load(0x10_0000, program);
     board.set_entry(0, 0, LOWER);
     board.set_entry(0, 1, upper);
     board.reset_core(0, 0x10_0000, BORDER);
@@ -86,7 +96,7 @@ fn play<B: Board>(alloc: Global, board: &mut B, upper: Region) -> Result<[Exit; 
 fn across_two_entries(rt: HostRuntime) -> Result<(), Fail> {
     let alloc = rt.alloc();
     let mut board = SimBoard::new(alloc);
-    let exits = play(alloc, &mut board, UPPER)?;
+    let exits = play(alloc, &mut board, &PROGRAM, UPPER)?;
     assert_eq!(rt; exits, [Exit::Ran, Exit::Ran, Exit::Ran]);
     assert_eq!(rt; board.byte_at(BORDER), 0xfc);
     assert_eq!(rt; board.byte_at(BORDER + 4), 0xfc);
@@ -94,10 +104,33 @@ fn across_two_entries(rt: HostRuntime) -> Result<(), Fail> {
 
     // The bytes in the lower half may be written, those behind the border not: none is. The load is allowed.
     let mut board = SimBoard::new(alloc);
-    let exits = play(alloc, &mut board, UPPER_READ)?;
-    assert_eq!(rt; exits, [Exit::Ran, Exit::Unbuilt, Exit::Unbuilt]);
+    let exits = play(alloc, &mut board, &PROGRAM, UPPER_READ)?;
+    let refused = Exit::Sync {
+        esr: 0x93c2_804c,
+        far: BORDER + 4,
+    };
+    assert_eq!(rt; exits, [Exit::Ran, refused, refused]);
     assert_eq!(rt; board.byte_at(BORDER), 0);
     assert_eq!(rt; board.byte_at(BORDER + 4), 0);
     assert_eq!(rt; board.core_view(0).pc, 0x10_0004);
+    Ok(())
+}
+
+/// HVC leaves PC behind itself, SMC at itself, where the next step executes it again.
+#[test]
+fn calls_go_to_el2(rt: HostRuntime) -> Result<(), Fail> {
+    let alloc = rt.alloc();
+    let mut board = SimBoard::new(alloc);
+    let exits = play(alloc, &mut board, &CALLS, UPPER)?;
+    let smc = Exit::Sync {
+        esr: 0x5e00_0002,
+        far: 0,
+    };
+    let hvc = Exit::Sync {
+        esr: 0x5a00_0001,
+        far: 0,
+    };
+    let pc = board.core_view(0).pc;
+    assert_eq!(rt; (exits, pc), ([hvc, smc, smc], 0x10_0004));
     Ok(())
 }

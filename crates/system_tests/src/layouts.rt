@@ -4,7 +4,6 @@ use crate::programs::PLACE_AND_NUMBER;
 use crate::runs::{FIVE, RUN, check, image_of, shelf_of, steps, told};
 use crate::samples::{
     BANKS, CORES, Change, DEVS, HYPERVISOR, ONE_VM, OWN_CORES, REGIONS, SHMEM, WINDOW, changed,
-    two_vms,
 };
 use std::alloc::Global;
 use std::process::Abort;
@@ -144,8 +143,35 @@ end a
 done
 ";
 
-/// The store is what isn't built.
-const NOT_STORED: &str = "status 12 entered 7 calls 3 faults 0\nnot built event 6\n";
+/// The store is refused, since no memory is there.
+const NO_MEMORY: &str = "status 0 entered 7 calls 3 faults 0
+vm a
+core 0 parked 93c08044 0000000000108000
+pc 0000000000100018
+pstate 000003c5
+x0 1122334455667788
+x1 0000000000108000
+console 0=
+m 0000000000100000 010090d20102a0f200f18ed2c0acaaf2
+m 0000000000100010 8068c6f24024e2f2200000f900000000
+end a
+done
+";
+
+/// The store is refused, since the memory is only read.
+const ONLY_READ: &str = "status 0 entered 7 calls 3 faults 0
+vm a
+core 0 parked 93c0804c 0000000000108000
+pc 0000000000100018
+pstate 000003c5
+x0 1122334455667788
+x1 0000000000108000
+console 0=
+m 0000000000100000 010090d20102a0f200f18ed2c0acaaf2
+m 0000000000100010 8068c6f24024e2f2200000f900000000
+end a
+done
+";
 
 /// A store to 0x108000 as the seventh step.
 #[rattlefmt::skip]
@@ -156,18 +182,18 @@ static STORES: [Row; 8] = [
         STORED),
     ("regions with a hole",
         &[(REGIONS, "regions = [{ base = 0x100000, size = 0x8000, access = \"rwx\" }, { base = 0x109000, size = 0x1000, access = \"rwx\" }]\n")],
-        NOT_STORED),
+        NO_MEMORY),
     ("a region that is only read",
         &[(REGIONS, "regions = [{ base = 0x100000, size = 0x8000, access = \"rwx\" }, { base = 0x108000, size = 0x1000, access = \"r\" }]\n")],
-        NOT_STORED),
+        ONLY_READ),
     ("a region that is only read and executed",
         &[(REGIONS, "regions = [{ base = 0x100000, size = 0x8000, access = \"rwx\" }, { base = 0x108000, size = 0x1000, access = \"rx\" }]\n")],
-        NOT_STORED),
-    ("a guard", &[(DEVS, GUARD)], NOT_STORED),
+        ONLY_READ),
+    ("a guard", &[(DEVS, GUARD)], NO_MEMORY),
     ("a guard behind", &[(DEVS, GUARD_BEHIND)], STORED),
     ("no window on shared memory",
         &[SHMEM, ("base = 0x180000", "base = 0x108000"), ("size = 0x10000, access", "size = 0x8000, access")],
-        NOT_STORED),
+        NO_MEMORY),
 ];
 
 #[test]
@@ -182,9 +208,8 @@ fn stores(rt: HostRuntime) -> Result<(), Fail> {
 
 /// Runs that are refused before an image is read.
 #[rattlefmt::skip]
-static REFUSED: [Row; 5] = [
-    ("a window", &[SHMEM, WINDOW], "status 12 entered 0 calls 1 faults 0\nnot built config\n"),
-    ("too many runs before a window", &[SHMEM, WINDOW, (CORES, "cores = [3]")],
+static REFUSED: [Row; 4] = [
+    ("too many runs with a window", &[SHMEM, WINDOW, (CORES, "cores = [3]")],
         "status 7 entered 0 calls 1 faults 0\ntoo many runs core 0 runs 4 entries 3\n"),
     ("the first core with too many runs", &[(CORES, "cores = [3, 2]"), (OWN_CORES, "cores = [0, 1]")],
         "status 7 entered 0 calls 1 faults 0\ntoo many runs core 1 runs 3 entries 2\n"),
@@ -197,31 +222,6 @@ static REFUSED: [Row; 5] = [
 fn refused(rt: HostRuntime) -> Result<(), Fail> {
     for row in REFUSED.as_slice() {
         check_run(&rt, rt.alloc(), b"", 1, row)?;
-    }
-    Ok(())
-}
-
-/// Changes of the sample of two VMs, and the answer to a run.
-#[rattlefmt::skip]
-static TWO: [Row; 3] = [
-    ("two VMs", &[], "status 11 entered 0 calls 1 faults 0\nmany vms\n"),
-    ("two VMs before too many runs", &[("cores = [16, 16]", "cores = [1, 1]")], "status 11 entered 0 calls 1 faults 0\nmany vms\n"),
-    ("a rule before two VMs", &[("name = \"b\"", "name = \"a\"")],
-        "status 6 entered 0 calls 1 faults 0\nill-formed rule 9 vm 1 item 0 0x0+0x0 0x0+0x0\n"),
-];
-
-fn check_two(rt: &impl Abort, alloc: Global, row: &Row) -> Result<(), Fail> {
-    let (shows, changes, wanted) = *row;
-    let config = changed(alloc, two_vms(alloc)?.as_str(), changes)?;
-    let mut shelf = shelf_of(alloc, config.as_bytes(), b"", b"", &[])?;
-    check(rt, shows, &told(alloc, &RUN, &mut shelf, &[])?, wanted);
-    Ok(())
-}
-
-#[test]
-fn several_vms(rt: HostRuntime) -> Result<(), Fail> {
-    for row in TWO.as_slice() {
-        check_two(&rt, rt.alloc(), row)?;
     }
     Ok(())
 }

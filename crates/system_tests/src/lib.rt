@@ -1,7 +1,7 @@
 //! What the crates do together: worked runs, by the definitions and by the program.
 #![tactic(auto)]
 
-pub use worked_rows::{rows, storing_rows};
+pub use worked_rows::{parked_row, rows, storing_rows};
 
 #[cfg(test)]
 mod answers;
@@ -16,9 +16,15 @@ mod layouts;
 #[cfg(test)]
 mod programs;
 #[cfg(test)]
+mod protection;
+#[cfg(test)]
 mod refusals;
 #[cfg(test)]
 mod runs;
 #[cfg(test)]
 mod samples;
+#[cfg(test)]
+mod several;
+#[cfg(test)]
+mod vectors;
 mod worked_rows;

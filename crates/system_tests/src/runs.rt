@@ -78,6 +78,29 @@ pub(crate) fn named_shelf(
     Ok(MemShelf::new(alloc, names, contents, failing.to_vec(alloc)?))
 }
 
+/// A shelf with a configuration of two VMs, their images by name, and a schedule.
+pub(crate) fn shelf_of_two(
+    alloc: Global,
+    config: &[u8],
+    names: [&str; 2],
+    images: [&[u8]; 2],
+    schedule: &[u8],
+) -> Result<MemShelf, Fail> {
+    let names = vec![in alloc;
+        String::from_str(alloc, "config.toml")?,
+        String::from_str(alloc, names[0])?,
+        String::from_str(alloc, names[1])?,
+        String::from_str(alloc, "schedule.txt")?,
+    ]?;
+    let contents = vec![in alloc;
+        config.to_vec(alloc)?,
+        images[0].to_vec(alloc)?,
+        images[1].to_vec(alloc)?,
+        schedule.to_vec(alloc)?,
+    ]?;
+    Ok(MemShelf::new(alloc, names, contents, Vec::new(alloc)))
+}
+
 /// The same with the sample and no call that fails.
 pub(crate) fn sample_shelf(alloc: Global, image: &[u8], schedule: &[u8]) -> Result<MemShelf, Fail> {
     shelf_of(alloc, ONE_VM.as_bytes(), image, schedule, &[])

@@ -80,6 +80,22 @@ ipcs = [{ shmem = 0, access = \"rw\", irqs = [60, 61] }]
     ),
 ];
 
+/// What makes it one whose VMs share nothing.
+pub(crate) static NOTHING_SHARED: [Change; 3] = [
+    (
+        "[[shmem]]\nbase = 0x180000\nsize = 0x1000\nevents = 2\n",
+        "",
+    ),
+    (
+        "ipcs = [{ shmem = 0, access = \"rw\", irqs = [50, 51] }]\n",
+        "",
+    ),
+    (
+        "ipcs = [{ shmem = 0, access = \"rw\", irqs = [60, 61] }]\n",
+        "",
+    ),
+];
+
 /// A text with each change made, wherever its old text stands.
 pub(crate) fn changed(alloc: Global, text: &str, changes: &[Change]) -> Result<String, Fail> {
     let mut text = String::from_str(alloc, text)?;

@@ -1,9 +1,12 @@
-ghost use Rattle.std.specs.Prelude.{◌≡◌, [], ◌∷◌, slice_index, Some, None};
+ghost use Rattle.std.specs.Prelude.{◌≡◌, ℕ, [], ◌∷◌, ◌++◌, slice_index, Some, None, codes};
 ghost use Rattle.system_tests.specs.Sample.{sample};
 ghost use Rattle.board.specs.Machine.{core_at};
 ghost use Rattle.vm_model.specs.Flat.{flat_run, first_unbuilt, entered_count};
 ghost use Rattle.vm_model.specs.Boot.{boot};
 ghost use Rattle.vm_model.specs.Lone.{stored};
+ghost use Rattle.hypercalls.specs.declared.power.Power.TheVariants.{Parked};
+ghost use Rattle.report.specs.Section.{power_line};
+ghost use Rattle.std.specs.Fmt.{decimal};
 ghost use Rattle.system_tests.specs.WorkedRows.{image, storing_image, steps, two_more};
 
 /// By the definitions, three steps of `movz x0, #5` and a branch to itself leave X0 at 5 and PC at the branch; each step
@@ -26,4 +29,11 @@ pub fn storing_rows()
     ensures x2 { slice_index (core_at
         (flat_run sample (flat_run sample (boot sample (storing_image ∷ [])) steps) two_more).cores 0).x 2 ≡ 0x12 }
     ensures built { first_unbuilt sample (flat_run sample (boot sample (storing_image ∷ [])) steps) 3 two_more ≡ None }
+{}
+
+/// By the definitions, the line of a core that was parked by a read at 0x40000 where nothing is mapped, with a bit above its
+/// syndrome's 32.
+pub fn parked_row()
+    ensures { (j : ℕ) → power_line j (Some (Parked 0x193c08004 0x40000))
+        ≡ codes "core " ++ (decimal j ++ codes " parked 93c08004 0000000000040000\n") }
 {}
