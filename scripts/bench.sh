@@ -1,23 +1,28 @@
 #!/usr/bin/env bash
-# Measures the proved program: how many steps it makes in a second, how often runs of few and of many steps took memory,
-# the most memory that it had, also by how much of its banks a VM uses, and how long the check of the largest lawful
-# configuration takes. `bench.sh IMAGE` measures another image that runs for ever.
+# Measures the proved program: how many steps it makes in a second in three loops (data processing alone, branches and
+# calls, loads and stores), and in eight VMs in turn, how often runs of few and of many steps took memory, the most memory that it had, also by how
+# much of its banks a VM uses, and how long the check of the largest lawful configuration takes. `bench.sh IMAGE` measures
+# another image that runs for ever in the place of the three. The variable PROGRAM names another program to measure, which
+# is then taken as it is.
 #
 # Outside the gate, and no judge of time. The status is 1 where a run fails, where its report isn't the one that qemu
-# made (bench/expected), or where steps take memory; 2 where nothing could be measured. It wants Debian's packages time
-# and valgrind, and makes the proved program where it isn't there yet.
+# made (bench/LOOP.expected), where steps take memory, or where a small VM of a large bank takes 4 MiB or more; 2 where
+# nothing could be measured. It wants Debian's packages time and valgrind, and makes the proved program where it isn't
+# there yet.
 #
-# bench/a.bin is made from bench/loop.s by aarch64-linux-gnu-as and aarch64-linux-gnu-objcopy -O binary (binutils 2.40).
-# bench/expected is the report after 1,000,000 steps in qemu-aarch64, as scripts/report-by-qemu.py prints it.
+# bench/LOOP.bin is made from bench/LOOP.s by aarch64-linux-gnu-as and aarch64-linux-gnu-objcopy -O binary (binutils
+# 2.40). bench/LOOP.expected is the report after 1,000,000 steps in qemu-aarch64, as scripts/report-by-qemu.py prints it.
 
 top="$(dirname "$(dirname "$(readlink -f "${BASH_SOURCE[0]}")")")"
-program="$top/crates/bao/out/bao"
-image="$(readlink -f "${1:-$top/scripts/bench/a.bin}")"
+program="${PROGRAM:-$top/crates/bao/out/bao}"
+loops=(data branch memory)
+[[ $# == 0 ]] || loops=("$(readlink -f "$1")")
 few=1
 some=700000
 many=1000000
 runs=3   # timed ones of each kind, of which the fastest counts
 lists=64 # a bound on the times that the schedule's two lists double from few to many
+small=4096 # KiB that a run of few steps stays below, with 64 KiB in use of 64 MiB
 
 # Reading a schedule fills two lists, which double where they are full: its bytes, and its events. So the number of
 # allocations grows with the schedule, but is the same for some and for many steps: in bytes and in lines these two
@@ -35,11 +40,13 @@ room="$(mktemp -d)" || exit 2
 trap 'rm -rf "$room"' EXIT
 
 # Without words the program tells its usage, so this shows that it was proved, made and run.
-(cd "$top/crates/bao" && rt run </dev/null 2>"$room/said") >"$room/out"
-grep -q '^usage: ' "$room/out" || give_up 2 "rt run made no proved program: $(tail -n 1 "$room/said")"
+if [[ -z ${PROGRAM:-} ]]; then
+    (cd "$top/crates/bao" && rt run </dev/null 2>"$room/said") >"$room/out"
+    grep -q '^usage: ' "$room/out" || give_up 2 "rt run made no proved program: $(tail -n 1 "$room/said")"
+fi
 
 cd "$room" || exit 2
-cp "$image" a.bin && cp "$top/examples/first/config.toml" . || exit 2
+cp "$top/examples/first/config.toml" . || exit 2
 for steps in "$few" "$some" "$many"; do
     yes 's 0 0' | head -n "$steps" >"schedule-$steps"
 done
@@ -80,17 +87,87 @@ check_largest() {
     [[ $(tail -n 1 out) == "ok" ]] || give_up 1 "the check of the largest configuration put out no whole packing"
 }
 
-is_expected() {
-    [[ $image != "$top/scripts/bench/a.bin" ]] || cmp -s out "$top/scripts/bench/expected"
+# The image of a loop of bench/, by its name, or any other, by its path.
+take_image() {
+    local image="$1"
+    [[ $image == /* ]] || image="$top/scripts/bench/$1.bin"
+    cp "$image" a.bin || give_up 2 "there is no image $image"
 }
 
-fastest=
-for ((number = 0; number < runs; number++)); do
-    run "$many"
-    is_expected || give_up 1 "the report after $many steps isn't bench/expected"
-    [[ -n $fastest && $took -ge $fastest ]] || fastest="$took"
+is_expected() {
+    [[ $1 == /* ]] || cmp -s out "$top/scripts/bench/$1.expected"
+}
+
+# Measures one loop, and prints how many of its steps a second has.
+measure() {
+    local loop="$1" number fastest=
+    take_image "$loop"
+    for ((number = 0; number < runs; number++)); do
+        run "$many"
+        is_expected "$loop" || give_up 1 "the report after $many steps of $loop isn't the expected one"
+        [[ -n $fastest && $took -ge $fastest ]] || fastest="$took"
+    done
+    echo "$(basename "$loop"): $((many * 1000000 / fastest)) steps per second" \
+        "($many steps in $((fastest / 1000)) ms, with reading and report)"
+}
+
+for loop in "${loops[@]}"; do
+    measure "$loop"
 done
 
+# Eight VMs on eight cores, each with the loop of data processing in memory of its own. Whether the time grows as the
+# number of steps does shows in the two speeds.
+eight_vms() {
+    local v ports=
+    for ((v = 0; v < 8; v++)); do
+        ports+="{ id = $v, base = $((0x9c090000 + 64 * v)), spi = $((32 + v)) }, "
+    done
+    echo "version = 1
+[platform]
+banks = [{ base = 0x0, size = 0x1000000 }]
+cores = [3, 3, 3, 3, 3, 3, 3, 3]
+gicd = 0xaf000000
+gicr = 0xaf100000
+ports = [$ports]
+[hypervisor]
+base = 0x0
+size = 0x10000"
+    for ((v = 0; v < 8; v++)); do
+        echo "[[vm]]
+name = \"vm$v\"
+image = \"a.bin\"
+load = $(((v + 1) * 0x100000))
+room = 0x8000
+entry = $(((v + 1) * 0x100000))
+cores = [$v]
+regions = [{ base = $(((v + 1) * 0x100000)), size = 0x10000, access = \"rwx\" }]
+devs = [{ port = $v, irq = 40 }]"
+    done
+}
+
+# Measures eight VMs over so many steps, and prints how many a second has.
+measure_eight() {
+    local steps="$1" begin number fastest= took
+    "$top/scripts/schedule.py" "$steps" --cores 8 >eight.txt || give_up 2 "scripts/schedule.py made no schedule"
+    for ((number = 0; number < runs; number++)); do
+        begin="$(now)"
+        "$program" run eight.toml eight.txt </dev/null >out || give_up 1 "a run of eight VMs failed: $(head -c 200 out)"
+        took=$(($(now) - begin))
+        [[ $(tail -n 1 out) == "done" ]] || give_up 1 "a run of eight VMs put out no whole report"
+        [[ -n $fastest && $took -ge $fastest ]] || fastest="$took"
+    done
+    echo "eight VMs: $((steps * 1000000 / fastest)) steps per second ($steps steps in $((fastest / 1000)) ms)"
+}
+
+if [[ $# == 0 ]]; then
+    take_image data
+    eight_vms >eight.toml
+    measure_eight $((many / 2))
+    measure_eight "$many"
+    take_image "${loops[-1]}"
+fi
+
+# What follows is of the last loop.
 run "$many" /usr/bin/time -f %M -o memory
 peak="$(cat memory)"
 
@@ -103,12 +180,11 @@ allocations() {
 for_few="$(allocations "$few")" && for_some="$(allocations "$some")" && for_many="$(allocations "$many")" || exit 1
 [[ $for_few -gt 0 && $for_some -gt 0 && $for_many -gt 0 ]] || give_up 2 "valgrind counted no allocation"
 
-echo "steps per second: $((many * 1000000 / fastest)) ($many steps in $((fastest / 1000)) ms, with reading and report)"
 echo "peak memory: $peak KiB"
 echo "allocations: $for_few with $few step, $for_some with $some steps, $for_many with $many steps"
 
-small="$(peak_of 0x10000 0x200000)" && wide="$(peak_of 0x10000 0x4000000)" && full="$(peak_of 0x3f00000 0x4000000)" || exit 1
-echo "peak memory of $few step: $small KiB with 64 KiB in use of 2 MiB, $wide KiB with 64 KiB of 64 MiB," \
+narrow="$(peak_of 0x10000 0x200000)" && wide="$(peak_of 0x10000 0x4000000)" && full="$(peak_of 0x3f00000 0x4000000)" || exit 1
+echo "peak memory of $few step: $narrow KiB with 64 KiB in use of 2 MiB, $wide KiB with 64 KiB of 64 MiB," \
     "$full KiB with 63 MiB of 64 MiB"
 
 "$top/scripts/bench/largest.py" >largest.toml || give_up 2 "the largest configuration can't be made"
@@ -121,3 +197,4 @@ echo "check of the largest configuration: $((quickest / 1000)) ms, $(cat memory)
 
 ((for_many == for_some)) || give_up 1 "the steps beyond $some took memory"
 ((for_many - for_few <= lists)) || give_up 1 "more allocations came with the steps than the schedule takes"
+((wide < small)) || give_up 1 "$few step took $small KiB or more with 64 KiB in use of 64 MiB"
