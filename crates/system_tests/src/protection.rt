@@ -28,6 +28,25 @@ static PARKED: [Program; 16] = [
     ("a misaligned load from it",      &[0xd2b5_e001, 0xb840_2020],              2, ["core 0 parked 93800004 00000000af000002", ""]),
 ];
 
+/// An access over the begin or the end of the memory, of which the second stage refuses the first byte, one within, or the
+/// last alone.
+#[rattlefmt::skip]
+static OVER_AN_EDGE: [Program; 12] = [
+    // shows  words  steps  lines of the report
+    ("a load, its first byte refused", &[0xd29f_ff81, 0xf2a0_01e1, 0xf940_0020], 3, ["core 0 parked 93c08004 00000000000ffffc", "pc 0000000000100008"]),
+    ("a load, one within refused", &[0xd29f_ff81, 0xf2a0_0201, 0xf940_0020], 3, ["core 0 parked 93c08004 0000000000110000", "pc 0000000000100008"]),
+    ("a load, its last byte refused", &[0xd29f_ff21, 0xf2a0_0201, 0xf940_0020], 3, ["core 0 parked 93c08004 0000000000110000", "pc 0000000000100008"]),
+    ("a store, its first byte refused", &[0xd29f_ff81, 0xf2a0_01e1, 0xf900_0020], 3, ["core 0 parked 93c08044 00000000000ffffc", "pc 0000000000100008"]),
+    ("a store, one within refused", &[0xd29f_ff81, 0xf2a0_0201, 0xf900_0020], 3, ["core 0 parked 93c08044 0000000000110000", "pc 0000000000100008"]),
+    ("a store, its last byte refused", &[0xd29f_ff21, 0xf2a0_0201, 0xf900_0020], 3, ["core 0 parked 93c08044 0000000000110000", "pc 0000000000100008"]),
+    ("a load of a pair, its first byte refused", &[0xd29f_ff81, 0xf2a0_01e1, 0xa940_0820], 3, ["core 0 parked 92000004 00000000000ffffc", "pc 0000000000100008"]),
+    ("a load of a pair, one within refused", &[0xd29f_ff01, 0xf2a0_0201, 0xa940_0820], 3, ["core 0 parked 92000004 0000000000110000", "pc 0000000000100008"]),
+    ("a load of a pair, its last byte refused", &[0xd29f_fe21, 0xf2a0_0201, 0xa940_0820], 3, ["core 0 parked 92000004 0000000000110000", "pc 0000000000100008"]),
+    ("a store of a pair, its first byte refused", &[0xd29f_ff81, 0xf2a0_01e1, 0xa900_0820], 3, ["core 0 parked 92000044 00000000000ffffc", "pc 0000000000100008"]),
+    ("a store of a pair, one within refused", &[0xd29f_ff01, 0xf2a0_0201, 0xa900_0820], 3, ["core 0 parked 92000044 0000000000110000", "pc 0000000000100008"]),
+    ("a store of a pair, its last byte refused", &[0xd29f_fe21, 0xf2a0_0201, 0xa900_0820], 3, ["core 0 parked 92000044 0000000000110000", "pc 0000000000100008"]),
+];
+
 /// A misaligned access, with SCTLR_EL1 as the first words set it: bit 1 checks the start, bit 3 checks SP at EL1 and bit 4
 /// at EL0.
 #[rattlefmt::skip]
@@ -85,10 +104,24 @@ const TWICE: [u32; 9] = [
 const LOAD: [u32; 6] = [0xd280_0024, 0xf2a0_0044, 0xd518_1004, 0xd288_0005, 0xf2a0_0205, 0xf940_00a0];
 
 #[rattlefmt::skip]
-static OVERLAPS: [Access; 2] = [
+static OVERLAPS: [Access; 14] = [
     // shows                        msr prlar    words  lines of the report
     ("both regions are on",         0xd518_6822, &LOAD, ["esr_el1 0000000096000004", "far_el1 0000000000104000"]),
     ("the second region is off",    0xd518_683f, &LOAD, ["pc 0000000000100040", "sctlr_el1 0000000000020001"]),
+    // Over the begin or the end of both regions, in memory that the background allows: the first stage refuses the first byte,
+    // one within, or the last alone.
+    ("a load, its first byte refused", 0xd518_6822, &[0xd280_0024, 0xf2a0_0044, 0xd518_1004, 0xd289_ff85, 0xf2a0_0205, 0xf940_00a0], ["esr_el1 0000000096000004", "far_el1 0000000000104ffc"]),
+    ("a load, one within refused", 0xd518_6822, &[0xd280_0024, 0xf2a0_0044, 0xd518_1004, 0xd287_ff85, 0xf2a0_0205, 0xf940_00a0], ["esr_el1 0000000096000004", "far_el1 0000000000104000"]),
+    ("a load, its last byte refused", 0xd518_6822, &[0xd280_0024, 0xf2a0_0044, 0xd518_1004, 0xd287_ff25, 0xf2a0_0205, 0xf940_00a0], ["esr_el1 0000000096000004", "far_el1 0000000000104000"]),
+    ("a store, its first byte refused", 0xd518_6822, &[0xd280_0024, 0xf2a0_0044, 0xd518_1004, 0xd289_ff85, 0xf2a0_0205, 0xf900_00a0], ["esr_el1 0000000096000044", "far_el1 0000000000104ffc"]),
+    ("a store, one within refused", 0xd518_6822, &[0xd280_0024, 0xf2a0_0044, 0xd518_1004, 0xd287_ff85, 0xf2a0_0205, 0xf900_00a0], ["esr_el1 0000000096000044", "far_el1 0000000000104000"]),
+    ("a store, its last byte refused", 0xd518_6822, &[0xd280_0024, 0xf2a0_0044, 0xd518_1004, 0xd287_ff25, 0xf2a0_0205, 0xf900_00a0], ["esr_el1 0000000096000044", "far_el1 0000000000104000"]),
+    ("a load of a pair, its first byte refused", 0xd518_6822, &[0xd280_0024, 0xf2a0_0044, 0xd518_1004, 0xd289_ff85, 0xf2a0_0205, 0xa940_04a0], ["esr_el1 0000000096000004", "far_el1 0000000000104ffc"]),
+    ("a load of a pair, one within refused", 0xd518_6822, &[0xd280_0024, 0xf2a0_0044, 0xd518_1004, 0xd287_ff05, 0xf2a0_0205, 0xa940_04a0], ["esr_el1 0000000096000004", "far_el1 0000000000104000"]),
+    ("a load of a pair, its last byte refused", 0xd518_6822, &[0xd280_0024, 0xf2a0_0044, 0xd518_1004, 0xd287_fe25, 0xf2a0_0205, 0xa940_04a0], ["esr_el1 0000000096000004", "far_el1 0000000000104000"]),
+    ("a store of a pair, its first byte refused", 0xd518_6822, &[0xd280_0024, 0xf2a0_0044, 0xd518_1004, 0xd289_ff85, 0xf2a0_0205, 0xa900_04a0], ["esr_el1 0000000096000044", "far_el1 0000000000104ffc"]),
+    ("a store of a pair, one within refused", 0xd518_6822, &[0xd280_0024, 0xf2a0_0044, 0xd518_1004, 0xd287_ff05, 0xf2a0_0205, 0xa900_04a0], ["esr_el1 0000000096000044", "far_el1 0000000000104000"]),
+    ("a store of a pair, its last byte refused", 0xd518_6822, &[0xd280_0024, 0xf2a0_0044, 0xd518_1004, 0xd287_fe25, 0xf2a0_0205, 0xa900_04a0], ["esr_el1 0000000096000044", "far_el1 0000000000104000"]),
 ];
 
 /// A store over a border between what one stage refuses and what the other does: the first refused byte decides.
@@ -111,7 +144,7 @@ const TO_EL0: [u32; 11] = [
 
 /// At EL0: what a row shows, `movz x1` of the low half, and the access behind [`TO_EL0`].
 #[rattlefmt::skip]
-static AT_EL0: [Access; 6] = [
+static AT_EL0: [Access; 8] = [
     // shows               movz x1      access          lines of the report
     ("AP 00, a load",      0xd288_0001, &[0xf940_00a0], ["esr_el1 000000009200000c", "far_el1 0000000000104000"]),
     ("AP 01, a store",     0xd288_0081, &[0xf900_00a0], ["pc 000000000010005c", "pstate 00000000"]),
@@ -119,11 +152,21 @@ static AT_EL0: [Access; 6] = [
     ("AP 11, a load",      0xd288_0181, &[0xf940_00a0], ["pc 000000000010005c", "pstate 00000000"]),
     ("AP 11, a store",     0xd288_0181, &[0xf900_00a0], ["esr_el1 000000009200004c", "far_el1 0000000000104000"]),
     ("no background",      0xd288_0081, &[0xf954_00a0], ["esr_el1 0000000092000004", "far_el1 0000000000106800"]),
+    ("XN, a fetch",        0xd288_00c1, &[0xd61f_00a0, 0], ["esr_el1 000000008200000c", "far_el1 0000000000104000"]),
+    ("no XN, a fetch",     0xd288_0081, &[0xd61f_00a0, 0], ["esr_el1 0000000002000000", "elr_el1 0000000000104000"]),
 ];
 
 #[test]
 fn refused_by_the_second_stage(rt: HostRuntime) -> Result<(), Fail> {
     for program in PARKED.as_slice() {
+        check_program(&rt, rt.alloc(), &[], program)?;
+    }
+    Ok(())
+}
+
+#[test]
+fn over_an_edge_of_the_memory(rt: HostRuntime) -> Result<(), Fail> {
+    for program in OVER_AN_EDGE.as_slice() {
         check_program(&rt, rt.alloc(), &[], program)?;
     }
     Ok(())
