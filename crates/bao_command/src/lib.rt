@@ -21,8 +21,10 @@ use std::process::ExitCode;
 use std::rt::{Env, Files};
 use std::{env, io};
 
-/// Carries out the command of the process's command line, and gives the exit status.
-pub fn run<R: Env + Files + Print + AllocGlobal>(rt: &R) -> ExitCode {
+/// Carries out the command of the process's command line, and gives the exit status: the number of a status, and no other.
+pub fn run<R: Env + Files + Print + AllocGlobal>(rt: &R) -> ExitCode
+    ensures { (status : Status) × exit_status result ≡ number_of status }
+{
     let alloc = rt.alloc();
     let mut sink = OutSink::new(io::writer(rt));
     match read_words(rt) {
