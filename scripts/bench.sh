@@ -1,6 +1,6 @@
 #!/usr/bin/env bash
 # Measures the proved program: how many steps it makes in a second in three loops (data processing alone, branches and
-# calls, loads and stores), and in eight VMs in turn, how often runs of few and of many steps took memory, the most memory that it had, also by how
+# calls, loads and stores), and in eight VMs in turn, how many events of a generated workload, how often runs of few and of many steps took memory, the most memory that it had, also by how
 # much of its banks a VM uses, and how long the check of the largest lawful configuration takes. `bench.sh IMAGE` measures
 # another image that runs for ever in the place of the three. The variable PROGRAM names another program to measure, which
 # is then taken as it is.
@@ -159,7 +159,22 @@ measure_eight() {
     echo "eight VMs: $((steps * 1000000 / fastest)) steps per second ($steps steps in $((fastest / 1000)) ms)"
 }
 
+# Measures the workload of 0, which has 200,000 events.
+measure_workload() {
+    local begin number fastest= took
+    for ((number = 0; number < runs; number++)); do
+        begin="$(now)"
+        /usr/bin/time -f %M -o memory "$program" gen 0 </dev/null >out || give_up 1 "gen 0 failed: $(head -c 200 out)"
+        took=$(($(now) - begin))
+        [[ $(tail -n 1 out) == "done" ]] || give_up 1 "gen 0 put out no whole summary"
+        [[ -n $fastest && $took -ge $fastest ]] || fastest="$took"
+    done
+    echo "gen 0: $((200000 * 1000000 / fastest)) events per second (200000 events in $((fastest / 1000)) ms)," \
+        "peak memory $(cat memory) KiB"
+}
+
 if [[ $# == 0 ]]; then
+    measure_workload
     take_image data
     eight_vms >eight.toml
     measure_eight $((many / 2))

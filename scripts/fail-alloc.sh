@@ -1,7 +1,8 @@
 #!/usr/bin/env bash
-# Refuses each allocation of the first example's run in turn, and then each of the check of its configuration. Each such
-# run must end with status 10, the one line `out of memory` and nothing else, until one in which no allocation is
-# refused, which must print the first report, or the packing.
+# Refuses each allocation of the first example's run in turn, then each of the check of its configuration, and then each of the
+# workload of 0. Each such run must end with status 10, the one line `out of memory` and nothing else, until one in which no
+# allocation is refused, which must print the first report, the packing, or the summary. `fail-alloc.sh run`, `check` or `gen`
+# does one of the three alone.
 #
 # Outside the gate: each run is compiled anew by `rt try`, which takes up to a minute.
 
@@ -20,6 +21,12 @@ entry 0 0000000000000002 000000000000ffc1
 entry 1 0000000000100004 000000000010ffc1
 entry 2 000000009c090006 000000009c090003
 ok
+TEXT
+# As a program of another language computes it from docs/formats.md.
+cat >"$room/summary" <<'TEXT'
+vm g0 x0 000000000219ea63 out 18676 sum 00245586
+vm g1 x0 0000000000f6827a out 18832 sum 0024a198
+done
 TEXT
 cd "$top/crates/bao" || exit 2
 
@@ -73,7 +80,15 @@ refuse_each() {
     echo "allocations of $1: $((number - 1))"
 }
 
-refuse_each "$top/crates/bao/stdout" run config.toml schedule.txt
-refuse_each "$room/packing" check config.toml
+commands=("$@")
+[[ $# != 0 ]] || commands=(run check gen)
+for command in "${commands[@]}"; do
+    case "$command" in
+        run) refuse_each "$top/crates/bao/stdout" run config.toml schedule.txt ;;
+        check) refuse_each "$room/packing" check config.toml ;;
+        gen) refuse_each "$room/summary" gen 0 ;;
+        *) echo "fail-alloc: $command is none of run, check and gen" >&2; exit 2 ;;
+    esac
+done
 echo "with one of them refused, answers other than status 10 and 'out of memory': $otherwise"
 ((otherwise == 0))

@@ -15,7 +15,7 @@ use a64_state::Core;
 /// Completes an instruction for which [`want`](crate::want) gave Done: writes its registers, and goes on to the next
 /// instruction, to a branch's target, or to where an exception returns.
 ///
-/// `now` is the step's system count, which a read of CNTVCT_EL0 gives. The answer is the interrupt that the instruction
+/// `now` is the step's system count, which the registers of the timer will show. The answer is the interrupt that the instruction
 /// ends; no row that is built ends one yet.
 #[tactic(auto, using(crate::proofs::Shapes::done_row, crate::proofs::Shapes::done_finished))]
 pub fn complete(core: &mut Core, now: u64, instr: &Instr) -> Option<u16>

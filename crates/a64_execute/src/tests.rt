@@ -582,7 +582,7 @@ static REGISTERS: [Asks; 28] = [
     ("msr icc_eoir1_el1, x0", 0xD518_CC20, Need::Unbuilt, UNDEFINED),
     ("msr cntv_ctl_el0, x0",  0xD51B_E320, Need::Unbuilt, UNDEFINED),
     ("mrs x0, cntv_cval_el0", 0xD53B_E340, Need::Unbuilt, UNDEFINED),
-    ("mrs x0, cntvct_el0",    0xD53B_E040, Need::Done,    Need::Done),
+    ("mrs x0, cntvct_el0",    0xD53B_E040, Need::Unbuilt, Need::Unbuilt),
     ("msr cntvct_el0, x0",    0xD51B_E040, UNDEFINED,     UNDEFINED),
     ("mrs x0, fpcr",          0xD53B_4400, UNDEFINED,     UNDEFINED),
 ];
@@ -629,7 +629,7 @@ const SP0: u64 = 0x2000;
 type Effect = (&'static str, u32, u32, [u64; 4]);
 
 #[rattlefmt::skip]
-static EFFECTS: [Effect; 18] = [
+static EFFECTS: [Effect; 17] = [
     // shows                word         PSTATE       PC      PSTATE       X0           SP_EL0
     ("eret to el0",         0xD69F_03E0, 0x0000_03C5, [0x9000, 0x6000_0000, X0,          SP0]),
     ("msr spsel, #0",       0xD500_40BF, 0x0000_03C5, [0x4004, 0x0000_03C4, X0,          SP0]),
@@ -647,7 +647,6 @@ static EFFECTS: [Effect; 18] = [
     ("mrs x0, nzcv at el0", 0xD53B_4200, 0xA000_0000, [0x4004, 0xA000_0000, 0xA000_0000, SP0]),
     ("msr nzcv, x0 at el0", 0xD51B_4200, 0x7000_0000, [0x4004, 0x8000_0000, X0,          SP0]),
     ("mrs xzr, nzcv",       0xD53B_421F, 0xA000_0005, [0x4004, 0xA000_0005, X0,          SP0]),
-    ("mrs x0, cntvct_el0",  0xD53B_E040, 0x0000_0000, [0x4004, 0x0000_0000, NOW,         SP0]),
     ("dc civac, x1",        0xD50B_7E21, 0x0000_03C5, [0x4004, 0x0000_03C5, X0,          SP0]),
 ];
 

@@ -103,9 +103,9 @@ NumbersAreDistinct =
 abbrev pub is_of_interface : SysId → Bool
 is_of_interface id = (id.op1 == 0) && ((id.crn == 4 && id.crm == 6) || (id.crn == 12 && (id.crm == 11 || id.crm == 12)))
 
--- CNTV_TVAL_EL0, CNTV_CTL_EL0 and CNTV_CVAL_EL0
+-- CNTV_TVAL_EL0, CNTV_CTL_EL0 and CNTV_CVAL_EL0, and the virtual count, CNTVCT_EL0
 abbrev pub is_of_timer : SysId → Bool
-is_of_timer id = (id.op1 == 3) && (id.crn == 14) && (id.crm == 3)
+is_of_timer id = (id.op1 == 3) && (id.crn == 14) && ((id.crm == 3) || (id.crm == 0 && id.op2 == 2))
 
 -- the registers that the machine doesn't have yet, by their numbers: those of the interrupt interface and of the timer
 abbrev pub is_unbuilt : SysId → Bool

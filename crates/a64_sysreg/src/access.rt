@@ -104,8 +104,8 @@ pub fn may_write(core: &Core, id: SysId) -> bool
     }
 }
 
-/// Whether a register, by its number, is one that the machine doesn't have yet: those of the interrupt interface, and
-/// those of the timer. Whether there is such a register at all is asked before.
+/// Whether a register, by its number, is one that the machine doesn't have yet: those of the interrupt interface,
+/// and the virtual count and timer. Whether there is such a register at all is asked before.
 ///
 /// [`read_sys`] and [`write_sys`] have these registers but for the four whose meaning is the interface's, which answer
 /// Unbuilt.
@@ -114,6 +114,6 @@ pub fn is_unbuilt(id: SysId) -> bool
 {
     let is_of_interface = id.op1 == 0
         && (id.crn == 4 && id.crm == 6 || id.crn == 12 && (id.crm == 11 || id.crm == 12));
-    let is_of_timer = id.op1 == 3 && id.crn == 14 && id.crm == 3;
+    let is_of_timer = id.op1 == 3 && id.crn == 14 && (id.crm == 3 || id.crm == 0 && id.op2 == 2);
     id.op0 == 3 && (is_of_interface || is_of_timer)
 }

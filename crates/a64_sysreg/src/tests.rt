@@ -172,7 +172,7 @@ fn unbuilt_registers(rt: HostRuntime) {
 }
 
 fn check_unbuilt(rt: &impl Abort, name: &str, number: [u8; 5]) {
-    let wanted = name.starts_with("ICC_") || name.starts_with("CNTV_");
+    let wanted = name.starts_with("ICC_") || name.starts_with("CNTV");
     assert_eq!(rt; is_unbuilt(sys_id(number)), wanted, "{name}");
 }
 

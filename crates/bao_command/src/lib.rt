@@ -3,19 +3,18 @@
 //! status.
 #![tactic(auto)]
 
-ghost use Rattle.std.specs.Prelude.{◌≡◌, [], map, string_bytes, false, IfErr, IsTrue};
+pub use machine::{Outcome, play};
+
+mod machine;
+
+ghost use Rattle.std.specs.Prelude.{◌≡◌, [], IfErr, IsTrue};
 ghost use Rattle.std.specs.Process.{exit_status};
 ghost use Rattle.report.specs.declared.status.Status.{Status};
 ghost use Rattle.report.specs.Status.{is_refusal, number_of, refusal_text};
-ghost use Rattle.bao_run.specs.Answers.{Answers};
 ghost use Rattle.bao_run.specs.Call.{IsPut};
 
-use bao_run::run_bao;
-use board::Board;
-use outside::{FileShelf, OutSink, Shelf, Sink, WorkingDirectory};
+use outside::{FileShelf, OutSink, Sink, WorkingDirectory};
 use report::{Status, write_refusal};
-use sim_board::SimBoard;
-use std::alloc::Global;
 use std::io::Print;
 use std::process::ExitCode;
 use std::rt::{Env, Files};
@@ -30,8 +29,10 @@ pub fn run<R: Env + Files + Print + AllocGlobal>(rt: &R) -> ExitCode
     match read_words(rt) {
         Ok(words) => {
             let mut shelf = FileShelf::new(alloc, WorkingDirectory::new(rt));
-            let mut board = SimBoard::new(alloc);
-            answer(alloc, &words, &mut shelf, &mut sink, &mut board)
+            match play(alloc, &words, &mut shelf, &mut sink) {
+                Ok(outcome) => ExitCode::from(outcome.status.number()),
+                Err(_) => refuse(&mut sink, &Status::OutOfMemory),
+            }
         }
         Err(status) => refuse(&mut sink, &status),
     }
@@ -50,36 +51,6 @@ fn read_words(rt: &(impl Env + AllocGlobal)) -> Result<Vec<String>, Status>
         words.push(word).map_err(|_| Status::OutOfMemory)?;
     }
     Ok(words)
-}
-
-/// What the top call answers to the words, as an exit status.
-pub fn answer<S: Shelf, K: Sink, B: Board>(
-    alloc: Global,
-    words: &[String],
-    shelf: &mut S,
-    sink: &mut K,
-    board: &mut B,
-) -> ExitCode
-    requires unfitted { (B.state board.old).fitted ≡ false }
-    requires quiet { (B.state board.old).console ≡ (λ port. []) }
-    ensures { (status : Status) × (exit_status result ≡ number_of status) × Answers (record {
-      words = map string_bytes words.now;
-      shelf = record {
-        held = S.held shelf.old;
-        before = record { faults = S.faults shelf.old; culprit = S.culprit shelf.old };
-        after = record { faults = S.faults shelf.new; culprit = S.culprit shelf.new };
-      };
-      sink = record {
-        taken_before = K.taken sink.old;
-        taken_after = K.taken sink.new;
-        faults_before = K.faults sink.old;
-        faults_after = K.faults sink.new;
-      };
-      board = record { before = B.state board.old; after = B.state board.new };
-    }) status }
-{
-    let status = run_bao(alloc, words, shelf, sink, board);
-    ExitCode::from(status.number())
 }
 
 /// Writes the line of a refusal, and gives its exit status. A fault at the line leaves the status.

@@ -6,13 +6,13 @@ use Rattle.outside.specs.Sink.{grown}
 use Rattle.report.specs.declared.status.Part.TheVariants as part
 use Rattle.report.specs.declared.status.Status.{Status}
 use Rattle.report.specs.declared.status.Status.TheVariants as status
-use Rattle.bao_run.specs.Words.{Command, Run, Check, Unbuilt, Unknown, IsRun, IsCheck, command_of}
+use Rattle.bao_run.specs.Words.{Command, Run, Check, Generate, Unknown, Plays, IsCheck, command_of}
 use Rattle.bao_run.specs.Call.{Files, Call}
 use Rattle.bao_run.specs.Ruling.{Ruling, Refused, Missing, Shown, Accept, ruling}
 use Rattle.bao_run.specs.Input.{IfHeld, lacking}
 use Rattle.bao_run.specs.Outcome.{Outcome, IsIsolated, IsRuled, ForSomeInput}
 use Rattle.bao_run.specs.Answers.{Answers, IsReadWell, last_count, status_by, status_after}
-use Rattle.bao_run.proofs.Alone.{report-alone}
+use Rattle.bao_run.proofs.Alone.{ending-alone}
 
 -- a count below its last value that has risen is another
 risen-other : (before : ℕ) → before < last_count → risen before ≢ before
@@ -21,22 +21,22 @@ risen-other before low same = omega arith
 held_fact : (held : Option Files) (files : Files) (P : Files → Type 0) → held ≡ Some files → IfHeld held P → P files
 held_fact held files P e h = let P' : Option Files → Type 0 = λ o. IfHeld o P in subst P' e h
 
--- a run is no check
-not_both : (command : Command) → IsRun command → IsCheck command → ⊥
-not_both (Run config schedule) run check = check
-not_both (Check config) run check = run
-not_both Unbuilt run check = run
-not_both Unknown run check = run
+-- what runs a board is no check
+not_both : (command : Command) → Plays command → IsCheck command → ⊥
+not_both (Run config schedule) plays check = check
+not_both (Check config) plays check = plays
+not_both (Generate number) plays check = check
+not_both Unknown plays check = plays
 
-isolated : (call : Call) → Outcome call status.Done → IsRun (command_of call.words) → ForSomeInput (IsIsolated call)
-isolated call (inl (input, done)) run = (
+isolated : (call : Call) → Outcome call status.Done → Plays (command_of call.words) → ForSomeInput (IsIsolated call)
+isolated call (inl (input, done)) plays = (
   input,
   record {
     done = done;
-    text = done.played.text.0 ∙ ap (grown call.sink.taken_before) (report-alone input done.accepted.runnable);
+    text = done.played.text.0 ∙ ap (grown call.sink.taken_before) (ending-alone input done.accepted.runnable (command_of call.words));
   },
 )
-isolated call (inr checked) run = absurd (not_both (command_of call.words) run checked.check)
+isolated call (inr checked) plays = absurd (not_both (command_of call.words) plays checked.check)
 
 module _ (call : Call) (files : Files) (held : call.shelf.held ≡ Some files) where
   -- the answer that the contents rule
@@ -74,7 +74,6 @@ module _ (call : Call) (files : Files) (held : call.shelf.held ≡ Some files) w
   complete status.WriteFault (inr fault) low well wlow wsame =
       absurd (risen-other call.sink.faults_before wlow (sym fault.text.1 ∙ wsame))
   complete status.OutOfMemory h low well wlow wsame = inr refl
-  complete (status.NotBuilt part.Words) (command, h) low well wlow wsame = refused (status.NotBuilt part.Words) h
   complete (status.NotBuilt (part.Event n)) (input, halted) low well wlow wsame =
       ruled (Accept input) (status.NotBuilt (part.Event n)) halted.accepted.told (sym (ap status_after halted.played.unbuilt))
 

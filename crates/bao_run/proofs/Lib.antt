@@ -5,6 +5,7 @@ pub mod Fetches
 pub mod Inputs
 pub mod Outcomes
 pub mod Alone
+pub mod Generated
 pub mod Complete
 pub mod SureLemmas
 pub mod Played

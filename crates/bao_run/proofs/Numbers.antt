@@ -1,12 +1,12 @@
 -- Decimal numbers, digit by digit.
 use Rattle.std.proofs.Common.{◌≡◌, ℕ, ◌+◌, ◌-◌, ◌*◌, ◌^◌, ◌<◌, min, Bool, true, false, List, [], ◌∷◌, length, take, get_or, refl, sym, ap, ◌∙◌, arith}
-use Rattle.std.specs.Prelude.{◌&&◌, nat_lt}
+use Rattle.std.specs.Prelude.{◌&&◌, nat_lt, if◌then◌else◌, None, Some}
 use Rattle.std.specs.List.{list_all}
 use Rattle.std.specs.Char.{is_ascii_digit}
 use Rattle.std.proofs.lemmas.List.{take_more}
 use Rattle.std.proofs.lemmas.List.Sums.{fold-append}
 use Rattle.std.proofs.lemmas.List.Folds.{list_all-append, list_all_at}
-use Rattle.bao_run.specs.Words.{value_of, is_number, has_no_leading_zero}
+use Rattle.bao_run.specs.Words.{value_of, number_of, has_no_leading_zero}
 
 -- one digit more
 pub digits_more : (text : List ℕ) (i : ℕ) → i < length text → list_all is_ascii_digit (take i text) ≡ true
@@ -35,10 +35,11 @@ and_false false = refl
 
 -- another byte than a digit
 pub not_a_number : (text : List ℕ) (i : ℕ) → i < length text → is_ascii_digit (get_or text i 0) ≡ false
-    → false ≡ is_number text
+    → None ≡ number_of text
 not_a_number text i low here =
-    sym (falsely (has_no_leading_zero text) (list_all is_ascii_digit text) (nat_lt (value_of text) (2 ^ 32))
-    (list_all_at is_ascii_digit text i 0 low here))
+    sym (ap (λ b. if b then Some (value_of text) else None)
+    (falsely (has_no_leading_zero text) (list_all is_ascii_digit text) (nat_lt (value_of text) (2 ^ 32))
+    (list_all_at is_ascii_digit text i 0 low here)))
   where
     falsely : (b d v : Bool) → d ≡ false → (b && (d && v)) ≡ false
     falsely true d v e = rw e refl

@@ -1,17 +1,19 @@
 -- From what the parts of a call answer to what its status means.
-use Rattle.std.proofs.Common.{◌≡◌, refl, ap, ◌∙◌, inl, inr, false}
+use Rattle.std.proofs.Common.{◌≡◌, ℕ, List, refl, sym, subst, ap, ◌∙◌, inl, inr, false}
 use Rattle.std.specs.Prelude.{Option, None, Some}
 use Rattle.bao_wellformed.specs.Checked.{checked_data}
 use Rattle.report.specs.declared.status.Part.TheVariants as part
 use Rattle.report.specs.declared.status.Status.{Status}
 use Rattle.report.specs.declared.status.Status.TheVariants as status
+use Rattle.report.specs.Section.{report}
+use Rattle.report.specs.Summary.{summary}
 use Rattle.report.specs.Status.{refusal_text}
-use Rattle.bao_run.specs.Words.{Command, Unbuilt, Unknown, Reads, IsRun, IsCheck, command_of}
-use Rattle.bao_run.specs.Call.{Files, Call, IsFaultless, IsPut}
-use Rattle.bao_run.specs.Ruling.{Refused, rule_command}
-use Rattle.bao_run.specs.Input.{IfHeld, IsRefused, IsRuledBy, IsInput, IsShown, input_data}
+use Rattle.bao_run.specs.Words.{Command, Run, Check, Generate, Unknown, IsCommand, Reads, IsCheck, command_of}
+use Rattle.bao_run.specs.Call.{Files, Call, InputData, IsFaultless, IsPut}
+use Rattle.bao_run.specs.Ruling.{Refused, Accept, rule_command, ruling}
+use Rattle.bao_run.specs.Input.{CanPlay, IfHeld, IsRefused, IsRuledBy, IsInput, IsShown, IsWorkload, input_data}
 use Rattle.bao_run.specs.Play.{IsPlayed, IsShowing}
-use Rattle.bao_run.specs.Outcome.{Outcome, IsAccepted, IsRuled}
+use Rattle.bao_run.specs.Outcome.{Outcome, IsAccepted, IsOf, IsRunnable, IsRuled, ending}
 use Rattle.bao_run.specs.declared.config.Packed.{Packed}
 use Rattle.bao_run.specs.declared.input.Input.{Input}
 
@@ -19,6 +21,12 @@ use Rattle.bao_run.specs.declared.input.Input.{Input}
 every : (held : Option Files) (P : Files → Type 0) → ((files : Files) → P files) → IfHeld held P
 every None P all = tt
 every (Some files) P all = all files
+
+reads_command : (command : Command) → Reads command → IsCommand command
+reads_command (Run config schedule) reads = tt
+reads_command (Check config) reads = tt
+reads_command (Generate number) reads = tt
+reads_command Unknown reads = absurd reads
 
 module _ (call : Call) (board : call.board.after ≡ call.board.before) where
   -- what the contents rule, with its line
@@ -35,11 +43,6 @@ module _ (call : Call) (board : call.board.after ≡ call.board.before) where
             (λ files. ap (rule_command files) is ∙ rules files),
         read,
       ) line
-
-  -- words that ask for what isn't built
-  pub unbuilt_words : command_of call.words ≡ Unbuilt → IsFaultless call.shelf
-      → IsPut call.sink (refusal_text (status.NotBuilt part.Words)) → Outcome call (status.NotBuilt part.Words)
-  unbuilt_words command read line = (command, by_words Unbuilt (status.NotBuilt part.Words) command (λ files. refl) read line)
 
   -- words that ask for nothing
   pub unknown_words : command_of call.words ≡ Unknown → IsFaultless call.shelf
@@ -59,12 +62,11 @@ module _ (call : Call) (board : call.board.after ≡ call.board.before) where
   refused_input (status.BadSchedule number rule) reads unfitted h line = (h.0, ruled (status.BadSchedule number rule) h.1 line)
   refused_input status.WriteFault reads unfitted h line = absurd h
   refused_input status.OutOfMemory reads unfitted h line = record {
-    reads = reads;
+    command = reads_command (command_of call.words) reads;
     read = h;
-    unfitted = (ap (λ m. m.fitted) board ∙ unfitted, ap (λ m. m.console) board);
+    unfitted = (ap (λ m. m.fitted) board ∙ unfitted, ap (λ m. m.ports) board);
     line = line;
   }
-  refused_input (status.NotBuilt part.Words) reads unfitted h line = absurd h
   refused_input (status.NotBuilt (part.Event number)) reads unfitted h line = absurd h
 
   -- a packing, as far as it was put out
@@ -98,24 +100,10 @@ module _ (call : Call) (board : call.board.after ≡ call.board.before) where
   shown packed check h status.OutOfMemory text = absurd text
   shown packed check h (status.NotBuilt part) text = absurd text
 
-module _ (call : Call) (input : Input) (run : IsRun (command_of call.words)) (reads : Reads (command_of call.words))
-    (h : IsInput call.shelf (command_of call.words) input) where
-  accepted : IsAccepted call (input_data input)
-  accepted = record {
-    run = run;
-    runnable = record {
-      well_formed = input.packed.checked.well_formed;
-      fits = input.packed.checked.config.fits;
-      rooms = h.playable.rooms;
-      spelled = record { schedule = h.spelled.0; said = input.events.items; spelled = h.spelled.1; taken = refl };
-    };
-    told = h.told.0;
-    read = h.told.1;
-  }
-
-  -- a run, as far as it came
-  pub played : (decided : Status) → IsPlayed (input_data input) call.board call.sink decided → Outcome call decided
-  played status.Done p = inl (input_data input, record { accepted = accepted; played = p })
+-- an accepted input was run, as far as it came
+module _ (call : Call) (command : IsCommand (command_of call.words)) (input : InputData) (accepted : IsAccepted call input) where
+  played : (decided : Status) → IsPlayed (ending (command_of call.words)) input call.board call.sink decided → Outcome call decided
+  played status.Done p = inl (input, record { accepted = accepted; played = p })
   played status.Usage p = absurd p
   played (status.ReadFault file) p = absurd p
   played (status.TooLong file limit) p = absurd p
@@ -123,7 +111,53 @@ module _ (call : Call) (input : Input) (run : IsRun (command_of call.words)) (re
   played (status.IllConfig why) p = absurd p
   played (status.TooMany core runs entries) p = absurd p
   played (status.BadSchedule line rule) p = absurd p
-  played status.WriteFault p = inl (input_data input, record { accepted = accepted; played = p })
-  played status.OutOfMemory p = record { reads = reads; read = h.told.1; unfitted = p.unfitted; line = p.line }
-  played (status.NotBuilt part.Words) p = absurd p
-  played (status.NotBuilt (part.Event number)) p = (input_data input, record { accepted = accepted; played = p })
+  played status.WriteFault p = inl (input, record { accepted = accepted; played = p })
+  played status.OutOfMemory p = record { command = command; read = accepted.read; unfitted = p.unfitted; line = p.line }
+  played (status.NotBuilt (part.Event number)) p = (input, record { accepted = accepted; played = p })
+
+runnable : (input : Input) → CanPlay input → IsRunnable (input_data input)
+runnable input playable = record {
+  well_formed = input.packed.checked.well_formed;
+  fits = input.packed.checked.config.fits;
+  rooms = playable.rooms;
+  said = input.events.items;
+  taken = refl;
+}
+
+-- a run of a schedule, and of a workload
+pub played_run : (call : Call) (config schedule : List ℕ) (input : Input) → command_of call.words ≡ Run config schedule
+    → IsInput call.shelf (Run config schedule) input → (decided : Status)
+    → IsPlayed report (input_data input) call.board call.sink decided → Outcome call decided
+played_run call config schedule input is h decided p =
+    played call (subst IsCommand (sym is) tt) (input_data input)
+    (record {
+      made = subst (λ c. IsOf c (input_data input)) (sym is)
+          (record { schedule = h.spelled.0; said = input.events.items; spelled = h.spelled.1; taken = refl });
+      runnable = runnable input h.playable;
+      told = subst (λ c. IfHeld call.shelf.held (λ files. rule_command files c ≡ Accept (input_data input))) (sym is) h.told.0;
+      read = h.told.1;
+    }) decided (subst (λ c. IsPlayed (ending c) (input_data input) call.board call.sink decided) (sym is) p)
+
+pub played_workload : (call : Call) (number : ℕ) (input : Input) → command_of call.words ≡ Generate number
+    → IsFaultless call.shelf → IsWorkload number input → (decided : Status)
+    → IsPlayed summary (input_data input) call.board call.sink decided → Outcome call decided
+played_workload call number input is read h decided p =
+    played call (subst IsCommand (sym is) tt) (input_data input)
+    (record {
+      made = subst (λ c. IsOf c (input_data input)) (sym is) h.made;
+      runnable = runnable input h.playable;
+      told = every call.shelf.held (λ files. ruling call.words files ≡ Accept (input_data input))
+          (λ files. ap (rule_command files) is ∙ ap Accept (sym h.made));
+      read = read;
+    }) decided (subst (λ c. IsPlayed (ending c) (input_data input) call.board call.sink decided) (sym is) p)
+
+-- memory ran out while a workload was made
+pub no_workload : (call : Call) (number : ℕ) → command_of call.words ≡ Generate number → IsFaultless call.shelf
+    → call.board.after ≡ call.board.before → call.board.before.fitted ≡ false → IsPut call.sink (refusal_text status.OutOfMemory)
+    → Outcome call status.OutOfMemory
+no_workload call number is read board unfitted line = record {
+  command = subst IsCommand (sym is) tt;
+  read = read;
+  unfitted = (ap (λ m. m.fitted) board ∙ unfitted, ap (λ m. m.ports) board);
+  line = line;
+}

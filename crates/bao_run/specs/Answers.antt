@@ -3,7 +3,7 @@ use Rattle.std.specs.Prelude.{◌≡◌, ℕ, ◌-◌, ◌^◌, ◌<◌, ◌⊎�
 use Rattle.report.specs.declared.status.Part.TheVariants as part
 use Rattle.report.specs.declared.status.Status.{Status}
 use Rattle.report.specs.declared.status.Status.TheVariants as status
-use Rattle.bao_run.specs.Words.{IsRun, command_of}
+use Rattle.bao_run.specs.Words.{Plays, command_of}
 use Rattle.bao_run.specs.Call.{Files, Call, IsFaultless}
 use Rattle.bao_run.specs.Ruling.{Ruling, Refused, Missing, Shown, Accept, ruling}
 use Rattle.bao_run.specs.Input.{lacking}
@@ -41,5 +41,5 @@ IsComplete call answer =
 
 pub record Answers (call : Call) (answer : Status) : Type 0 where
   pub outcome : Outcome call answer
-  pub isolated : answer ≡ status.Done → IsRun (command_of call.words) → ForSomeInput (IsIsolated call)
+  pub isolated : answer ≡ status.Done → Plays (command_of call.words) → ForSomeInput (IsIsolated call)
   pub complete : IsComplete call answer

@@ -15,9 +15,9 @@ use Rattle.schedule.specs.Schedule.{Events, schedule_of}
 use Rattle.hypervisor.specs.Event.{IsPlaced}
 use Rattle.vm_model.specs.Apart.{FitRooms}
 use Rattle.vm_create.specs.Boot.{ArePlans}
-use Rattle.bao_run.specs.Words.{Command, Run, Check, Unbuilt, Unknown, IsRun, same}
+use Rattle.bao_run.specs.Words.{Command, Run, Check, Generate, Unknown, IsRun, same}
 use Rattle.bao_run.specs.Call.{InputData, Files, ShelfUse, IsFaultless, HasFailed}
-use Rattle.bao_run.specs.Ruling.{Ruling, Refused, Missing, Shown, Accept, rule_command}
+use Rattle.bao_run.specs.Ruling.{Ruling, Refused, Missing, Shown, Accept, rule_command, workload}
 use Rattle.hypervisor.specs.Event.{flat_event}
 use Rattle.bao_run.specs.declared.input.Input.{Input}
 use Rattle.bao_run.specs.declared.config.Packed.{Packed}
@@ -40,7 +40,7 @@ image_names v (vm ∷ vms) = (file.Image v, vm.image) ∷ image_names (v + 1) vm
 abbrev pub files_of : Command → ConfigData → List Named
 files_of (Run config schedule) cfg = (file.Config, config) ∷ image_names 0 cfg.vms ++ (file.Schedule, schedule) ∷ []
 files_of (Check config) cfg = (file.Config, config) ∷ []
-files_of Unbuilt cfg = []
+files_of (Generate number) cfg = []
 files_of Unknown cfg = []
 
 -- the first of these files that has the name
@@ -78,7 +78,6 @@ IsRefused shelf command (status.BadSchedule line rule) =
     IsRun command × IsRuledBy shelf command (Refused (status.BadSchedule line rule))
 IsRefused shelf command status.WriteFault = ⊥
 IsRefused shelf command status.OutOfMemory = IsFaultless shelf
-IsRefused shelf command (status.NotBuilt part.Words) = ⊥
 IsRefused shelf command (status.NotBuilt (part.Event number)) = ⊥
 
 -- what an `Input` is made of
@@ -102,6 +101,11 @@ pub record CanPlay (input : Input) : Type 0 where
 pub record IsInput (shelf : ShelfUse) (command : Command) (input : Input) : Type 0 where
   pub told : IsRuledBy shelf command (Accept (input_data input))
   pub spelled : (bytes : List ℕ) × (schedule_of (checked_data input.packed.checked) bytes ≡ Events input.events.items)
+  pub playable : CanPlay input
+
+-- the workload of a number
+pub record IsWorkload (number : ℕ) (input : Input) : Type 0 where
+  pub made : input_data input ≡ workload number
   pub playable : CanPlay input
 
 abbrev pub IsAnswer : ShelfUse → Command → Result Input Status → Type 0

@@ -7,5 +7,6 @@ pub mod Input
 pub mod Reading
 pub mod Outcome
 pub mod Play
+pub mod Ending
 pub mod Answers
 pub mod SureAnswers

@@ -1,11 +1,10 @@
 -- What the parts of a run answer, between the reading of the files and the report.
-use Rattle.std.specs.Prelude.{◌≡◌, ℕ, true, false, Option, None, Some, length}
+use Rattle.std.specs.Prelude.{◌≡◌, ℕ, true, false, List, Option, None, Some, length}
 use Rattle.report.specs.declared.status.Part.TheVariants as part
 use Rattle.report.specs.declared.status.Status.{Status}
 use Rattle.report.specs.declared.status.Status.TheVariants as status
 use Rattle.bao_config.specs.Data.{ConfigData}
 use Rattle.report.specs.Packing.{packing_text}
-use Rattle.report.specs.Section.{report}
 use Rattle.report.specs.Status.{refusal_text}
 use Rattle.board.specs.Machine.{Machine}
 use Rattle.vm_model.specs.Flat.{Flat, flat_run, entered_count, first_unbuilt}
@@ -27,7 +26,7 @@ abbrev pub first_halt : InputData → Option ℕ
 first_halt input = first_unbuilt input.cfg (booted input) 0 input.events
 
 -- All events were run: the board has the shape of the configuration for so many events; the entries of each core realise the
--- map, and are its packing with zero entries after it; each event whose core ran has entered it; and memory, cores and consoles
+-- map, and are its packing with zero entries after it; each event whose core ran has entered it; and memory, cores and ports
 -- are those of the model.
 pub record IsRunThrough (m : Machine) (input : InputData) : Type 0 where
   pub fitted : m.fitted ≡ true
@@ -40,17 +39,21 @@ pub record IsRunThrough (m : Machine) (input : InputData) : Type 0 where
 
 -- the board isn't fitted, and its ports' states are as before
 abbrev pub IsUnfitted : BoardUse → Type 0
-IsUnfitted board = (board.after.fitted ≡ false) × (board.after.console ≡ board.before.console)
+IsUnfitted board = (board.after.fitted ≡ false) × (board.after.ports ≡ board.before.ports)
 
--- all was run and the report was put out
-pub record IsFinished (input : InputData) (used : BoardUse) (sink : SinkUse) : Type 0 where
-  pub board : IsRunThrough used.after input
-  pub text : IsTaken sink (report input.cfg (final input))
+-- what is put out at the end of a run: the report, or the summary
+abbrev pub Text : Type 0
+Text = ConfigData → Flat → List ℕ
 
--- all was run and the sink failed at the report
-pub record IsCutShort (input : InputData) (used : BoardUse) (sink : SinkUse) : Type 0 where
+-- all was run and the text was put out
+pub record IsFinished (ending : Text) (input : InputData) (used : BoardUse) (sink : SinkUse) : Type 0 where
   pub board : IsRunThrough used.after input
-  pub text : IsCut sink (report input.cfg (final input))
+  pub text : IsTaken sink (ending input.cfg (final input))
+
+-- all was run and the sink failed at the text
+pub record IsCutShort (ending : Text) (input : InputData) (used : BoardUse) (sink : SinkUse) : Type 0 where
+  pub board : IsRunThrough used.after input
+  pub text : IsCut sink (ending input.cfg (final input))
 
 -- the event of this number is the first that does something that isn't built
 pub record IsHalted (number : ℕ) (input : InputData) (board : BoardUse) (sink : SinkUse) : Type 0 where
@@ -77,17 +80,16 @@ IsShowing cfg sink status.WriteFault = IsCut sink (packing_text cfg (packings cf
 IsShowing cfg sink status.OutOfMemory = ⊥
 IsShowing cfg sink (status.NotBuilt part) = ⊥
 
--- by the status of a run: what it left of the board and the sink
-abbrev pub IsPlayed : InputData → BoardUse → SinkUse → Status → Type 0
-IsPlayed input board sink status.Done = IsFinished input board sink
-IsPlayed input board sink status.Usage = ⊥
-IsPlayed input board sink (status.ReadFault file) = ⊥
-IsPlayed input board sink (status.TooLong file limit) = ⊥
-IsPlayed input board sink status.BadToml = ⊥
-IsPlayed input board sink (status.IllConfig why) = ⊥
-IsPlayed input board sink (status.TooMany core runs entries) = ⊥
-IsPlayed input board sink (status.BadSchedule line rule) = ⊥
-IsPlayed input board sink status.WriteFault = IsCutShort input board sink
-IsPlayed input board sink status.OutOfMemory = IsStarved board sink
-IsPlayed input board sink (status.NotBuilt part.Words) = ⊥
-IsPlayed input board sink (status.NotBuilt (part.Event number)) = IsHalted number input board sink
+-- by the status of a run that ends with this text: what it left of the board and the sink
+abbrev pub IsPlayed : Text → InputData → BoardUse → SinkUse → Status → Type 0
+IsPlayed text input board sink status.Done = IsFinished text input board sink
+IsPlayed text input board sink status.Usage = ⊥
+IsPlayed text input board sink (status.ReadFault file) = ⊥
+IsPlayed text input board sink (status.TooLong file limit) = ⊥
+IsPlayed text input board sink status.BadToml = ⊥
+IsPlayed text input board sink (status.IllConfig why) = ⊥
+IsPlayed text input board sink (status.TooMany core runs entries) = ⊥
+IsPlayed text input board sink (status.BadSchedule line rule) = ⊥
+IsPlayed text input board sink status.WriteFault = IsCutShort text input board sink
+IsPlayed text input board sink status.OutOfMemory = IsStarved board sink
+IsPlayed text input board sink (status.NotBuilt (part.Event number)) = IsHalted number input board sink

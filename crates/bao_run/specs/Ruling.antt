@@ -2,8 +2,6 @@
 use Rattle.std.specs.Prelude.{ℕ, ◌+◌, ◌-◌, ◌^◌, min, nat_lt, if◌then◌else◌, List, [], ◌∷◌, length, map, Option, None, Some, Result, Ok, Err}
 use Rattle.report.specs.declared.status.FileId.{FileId}
 use Rattle.report.specs.declared.status.FileId.TheVariants as file
-use Rattle.report.specs.declared.status.Part.{Part}
-use Rattle.report.specs.declared.status.Part.TheVariants as part
 use Rattle.report.specs.declared.status.Why.TheVariants as why
 use Rattle.report.specs.declared.status.Status.{Status}
 use Rattle.report.specs.declared.status.Status.TheVariants as status
@@ -15,7 +13,8 @@ use Rattle.bao_wellformed.specs.declared.ill.Ill.{Ill}
 use Rattle.bao_wellformed.specs.WellFormed.{first_ill}
 use Rattle.mpu_packer.specs.Runs.{core_runs}
 use Rattle.schedule.specs.Schedule.{ScheduleAnswer, Events, Broken, schedule_of}
-use Rattle.bao_run.specs.Words.{Command, Run, Check, Unbuilt, Unknown, command_of}
+use Rattle.schedule.specs.Workload.{workload_config, workload_events, workload_images}
+use Rattle.bao_run.specs.Words.{Command, Run, Check, Generate, Unknown, command_of}
 use Rattle.bao_run.specs.Call.{InputData, Files}
 use Rattle.hypervisor.specs.Event.{flat_event}
 
@@ -39,8 +38,14 @@ image_limit vm = min vm.place.size (2 ^ 32 - 1)
 abbrev pub too_long : FileId → ℕ → Ruling
 too_long file limit = Refused (status.TooLong file limit)
 
-abbrev pub not_built : Part → Ruling
-not_built part = Refused (status.NotBuilt part)
+-- the generated workload of a number
+abbrev pub workload : ℕ → InputData
+workload number =
+    record {
+      cfg = workload_config number;
+      images = workload_images number;
+      events = map flat_event (workload_events number);
+    }
 
 -- the schedule, for a configuration and its images
 abbrev pub rule_events : ConfigData → List (List ℕ) → ScheduleAnswer → Ruling
@@ -108,7 +113,7 @@ rule_config next (Some bytes) =
 abbrev pub rule_command : Files → Command → Ruling
 rule_command files (Run config schedule) = rule_config (rule_run files schedule) (files config)
 rule_command files (Check config) = rule_config rule_check (files config)
-rule_command files Unbuilt = not_built part.Words
+rule_command files (Generate number) = Accept (workload number)
 rule_command files Unknown = Refused status.Usage
 
 abbrev pub ruling : List (List ℕ) → Files → Ruling

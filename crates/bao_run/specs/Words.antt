@@ -1,33 +1,45 @@
 -- The words of the command line.
-use Rattle.std.specs.Prelude.{ℕ, ◌+◌, ◌-◌, ◌*◌, ◌^◌, ◌==◌, ◌&&◌, nat_lt, not, Bool, true, false, if◌then◌else◌, List, [], ◌∷◌, codes, fold, ⊤}
+use Rattle.std.specs.Prelude.{ℕ, ◌+◌, ◌-◌, ◌*◌, ◌^◌, ◌==◌, ◌&&◌, nat_lt, not, Bool, true, false, if◌then◌else◌, List, [], ◌∷◌, Option, None, Some, codes, fold, ⊤}
 use Rattle.std.specs.Cmp.Lexicographic.{pointwise}
 use Rattle.std.specs.List.{list_all}
 use Rattle.std.specs.Char.{is_ascii_digit}
 
--- the words name a configuration and a schedule to run, or a configuration to check, or a command that isn't built, or nothing
+-- the words name a configuration and a schedule to run, or a configuration to check, or the number of a workload to run, or nothing
 pub data Command : Type 0 where
   Run : (config schedule : List ℕ) → Command
   Check : (config : List ℕ) → Command
-  Unbuilt : Command
+  Generate : (number : ℕ) → Command
   Unknown : Command
 
--- the command reads files; it is a run; it is a check
+-- the words name something; the command reads files; it runs a board; it is a run of a schedule; it is a check
+abbrev pub IsCommand : Command → Type 0
+IsCommand (Run config schedule) = ⊤
+IsCommand (Check config) = ⊤
+IsCommand (Generate number) = ⊤
+IsCommand Unknown = ⊥
+
 abbrev pub Reads : Command → Type 0
 Reads (Run config schedule) = ⊤
 Reads (Check config) = ⊤
-Reads Unbuilt = ⊥
+Reads (Generate number) = ⊥
 Reads Unknown = ⊥
+
+abbrev pub Plays : Command → Type 0
+Plays (Run config schedule) = ⊤
+Plays (Check config) = ⊥
+Plays (Generate number) = ⊤
+Plays Unknown = ⊥
 
 abbrev pub IsRun : Command → Type 0
 IsRun (Run config schedule) = ⊤
 IsRun (Check config) = ⊥
-IsRun Unbuilt = ⊥
+IsRun (Generate number) = ⊥
 IsRun Unknown = ⊥
 
 abbrev pub IsCheck : Command → Type 0
 IsCheck (Run config schedule) = ⊥
 IsCheck (Check config) = ⊤
-IsCheck Unbuilt = ⊥
+IsCheck (Generate number) = ⊥
 IsCheck Unknown = ⊥
 
 -- two texts are the same
@@ -48,14 +60,20 @@ has_no_leading_zero (first ∷ second ∷ digits) = not (first == 48)
 abbrev pub is_number : List ℕ → Bool
 is_number text = has_no_leading_zero text && (list_all is_ascii_digit text && nat_lt (value_of text) (2 ^ 32))
 
--- `gen` with a number
-abbrev pub is_unbuilt : List ℕ → List ℕ → Bool
-is_unbuilt verb word = same verb (codes "gen") && is_number word
+-- the number that a text is, if it is one
+abbrev pub number_of : List ℕ → Option ℕ
+number_of text = if is_number text then Some (value_of text) else None
 
--- by how many words there are: `check` has a configuration after it, and `run` a configuration and a schedule
+-- `gen` with a number
+abbrev pub generated : Option ℕ → Command
+generated None = Unknown
+generated (Some number) = Generate number
+
+-- by how many words there are: `check` has a configuration after it, `gen` a number, and `run` a configuration and a schedule
 abbrev pub command_of : List (List ℕ) → Command
 command_of [] = Unknown
 command_of (verb ∷ []) = Unknown
-command_of (verb ∷ word ∷ []) = if same verb (codes "check") then Check word else if is_unbuilt verb word then Unbuilt else Unknown
+command_of (verb ∷ word ∷ []) =
+    if same verb (codes "check") then Check word else if same verb (codes "gen") then generated (number_of word) else Unknown
 command_of (verb ∷ config ∷ schedule ∷ []) = if same verb (codes "run") then Run config schedule else Unknown
 command_of (verb ∷ config ∷ schedule ∷ other ∷ rest) = Unknown

@@ -88,7 +88,7 @@ fn packing_status(core: u8, fault: PackError) -> Status
 }
 
 /// The packings of all cores, in their order; or the first core that has none, and why.
-fn pack_all(alloc: Global, checked: &Checked) -> Result<Vec<Plan>, (u8, PackError)>
+pub fn pack_all(alloc: Global, checked: &Checked) -> Result<Vec<Plan>, (u8, PackError)>
     ensures plans { IfOk result (λ plans. ArePlans (checked_data checked.now) plans.items) }
     ensures packable { IfOk result (λ plans. IsPackable (checked_data checked.now)) }
     ensures overfull { IfErr result (λ e. IsOverfull (checked_data checked.now) e.0 e.1) }

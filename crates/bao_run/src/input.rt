@@ -1,15 +1,18 @@
-ghost use Rattle.std.specs.Prelude.{◌≡◌};
+ghost use Rattle.std.specs.Prelude.{◌≡◌, IfOk};
 ghost use Rattle.bao_run.specs.Words.{Check, Run};
-ghost use Rattle.bao_run.specs.Input.{IsAnswer, IsCheckAnswer};
+ghost use Rattle.bao_run.specs.Input.{IsAnswer, IsCheckAnswer, IsWorkload};
 ghost use Rattle.bao_run.specs.Reading.{schedule_status};
 
-use crate::config::{Packed, pack_checked, read_checked};
+use crate::config::{Packed, pack_all, pack_checked, read_checked};
 use crate::fetch::fetch;
 use crate::images::{first_named, read_images};
+use bao_types::OutOfMemory;
+use bao_wellformed::{CheckError, check};
 use hypervisor::Event;
+use mpu_packer::PackError;
 use outside::Shelf;
 use report::{FileId, Status};
-use schedule::{ScheduleError, read_schedule};
+use schedule::{ScheduleError, Workload, make_workload, read_schedule};
 use std::alloc::Global;
 
 /// How many bytes a schedule may have.
@@ -64,6 +67,31 @@ pub fn read_run<S: Shelf>(
             events,
         }),
         Err(fault) => Err(schedule_status(fault)),
+    }
+}
+
+/// Makes the generated workload of a number. Nothing but want of memory refuses it.
+pub fn make_input(alloc: Global, number: u32) -> Result<Input, OutOfMemory>
+    ensures { IfOk result (IsWorkload number) }
+{
+    let Workload {
+        config,
+        images,
+        events,
+    } = make_workload(alloc, number)?;
+    let checked = match check(alloc, config) {
+        Ok(checked) => checked,
+        Err(CheckError::OutOfMemory) => return Err(OutOfMemory),
+        Err(CheckError::Ill(_)) => unreachable!(),
+    };
+    match pack_all(alloc, &checked) {
+        Ok(plans) => Ok(Input {
+            packed: Packed { checked, plans },
+            images,
+            events,
+        }),
+        Err((_, PackError::OutOfMemory)) => Err(OutOfMemory),
+        Err((_, PackError::TooMany { .. })) => unreachable!(),
     }
 }
 

@@ -3,6 +3,7 @@
 #![tactic(auto)]
 
 mod config;
+mod ending;
 mod fetch;
 mod images;
 mod input;

@@ -1,5 +1,5 @@
 ghost use Rattle.std.specs.Prelude.{◌≡◌, map, string_bytes};
-ghost use Rattle.bao_run.specs.Words.{command_of, is_unbuilt, is_number, has_no_leading_zero};
+ghost use Rattle.bao_run.specs.Words.{command_of, generated, number_of, has_no_leading_zero};
 ghost use Rattle.bao_run.specs.Command.{command_data};
 
 /// What the words of the command line ask for.
@@ -8,8 +8,8 @@ pub enum Command<'a> {
     Run { config: &'a str, schedule: &'a str },
     /// To show the packing of a configuration, the name of a file.
     Check { config: &'a str },
-    /// Something that isn't built yet.
-    Unbuilt,
+    /// To run the generated workload of a number.
+    Generate { number: u32 },
     /// Nothing.
     Unknown,
 }
@@ -22,7 +22,7 @@ pub fn read_words(words: &[String]) -> Command<'_>
         [verb, config] if verb.as_str() == "check" => Command::Check {
             config: config.as_str(),
         },
-        [verb, word] if is_unbuilt(verb.as_str(), word.as_str()) => Command::Unbuilt,
+        [verb, word] if verb.as_str() == "gen" => generated(number_of(word.as_bytes())),
         [verb, config, schedule] if verb.as_str() == "run" => Command::Run {
             config: config.as_str(),
             schedule: schedule.as_str(),
@@ -31,31 +31,38 @@ pub fn read_words(words: &[String]) -> Command<'_>
     }
 }
 
-/// Whether the words are `gen` with a number.
-fn is_unbuilt(verb: &str, word: &str) -> bool
-    ensures { result ≡ is_unbuilt verb.now word.now }
+/// The workload of a number, if there is one.
+fn generated(number: Option<u32>) -> Command<'static>
+    ensures { command_data result ≡ generated number }
 {
-    verb == "gen" && is_number(word.as_bytes())
+    match number {
+        Some(number) => Command::Generate { number },
+        None => Command::Unknown,
+    }
 }
 
-/// Whether a text is a decimal number from 0 to 2^32 - 1, without leading zeros.
+/// The number that a text is, if it is a decimal one from 0 to 2^32 - 1, without leading zeros.
 #[tactic(auto, using(crate::proofs::Numbers::digits_more, crate::proofs::Numbers::value_cut, crate::proofs::Numbers::not_a_number))]
-fn is_number(text: &[u8]) -> bool
-    ensures { result ≡ is_number text.now }
+fn number_of(text: &[u8]) -> Option<u32>
+    ensures { result ≡ number_of text.now }
 {
     if !has_no_leading_zero(text) {
-        return false;
+        return None;
     }
     let mut value = 0u64;
     for byte in text {
         if !byte.is_ascii_digit() {
-            return false;
+            return None;
         }
         value = value
             .saturating_mul(10)
             .saturating_add(u64::from(*byte - b'0'));
     }
-    value < 1 << 32
+    if value < 1 << 32 {
+        Some(value as u32)
+    } else {
+        None
+    }
 }
 
 fn has_no_leading_zero(text: &[u8]) -> bool

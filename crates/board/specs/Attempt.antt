@@ -1,9 +1,8 @@
 -- One step of one core: PC is aligned, the fetch is judged, the state is legal, the word is decoded; and what the instruction
 -- asks of memory is checked, judged byte by byte, and carried out in address order (ARM DDI 0487, "Synchronous exception
 -- prioritization for exceptions taken to AArch64 state").
-use Rattle.std.specs.Prelude.{ℕ, zero, suc, ◌/◌, ◌%◌, ◌==◌, ◌&&◌, ◌||◌, not, Bool, true, false, if◌then◌else◌, List, [], ◌∷◌, Option, None, Some}
+use Rattle.std.specs.Prelude.{ℕ, ◌%◌, ◌==◌, ◌&&◌, ◌||◌, not, Bool, true, false, if◌then◌else◌, List, [], ◌∷◌, Option, None, Some}
 use Rattle.bao_types.specs.Bits.{field}
-use Rattle.bao_types.specs.Bytes.{next_address}
 use Rattle.bao_types.specs.declared.access.Verdict.{Verdict}
 use Rattle.bao_types.specs.declared.access.Verdict.TheVariants.{Allow, Translation, Permission}
 use Rattle.a64_state.specs.Core.{CoreData}
@@ -25,6 +24,7 @@ use Rattle.a64_execute.specs.Finish.{finished}
 use Rattle.board.specs.declared.judged.Fault.{Fault}
 use Rattle.board.specs.declared.judged.Judged.{Judged}
 use Rattle.board.specs.declared.judged.Judged.TheVariants.{Memory, Port, Refused}
+use Rattle.board.specs.Ports.{Places, PortAccess, stores_from, elements_read, elements_stored, elements_written}
 use Rattle.board.specs.Judge.{Reach}
 
 -- What a step comes to. The core goes on, at EL1 where it takes an exception there; or an exception of this syndrome goes to
@@ -34,20 +34,17 @@ pub data Outcome : Type 0 where
   Leave : (esr far : ℕ) → Outcome
   Unbuilt : Outcome
 
--- What a step does: the core after it, each byte that it stores, with its address, in order, and what it comes to.
+-- What a step does: the core after it, each byte of memory that it stores, with its address, in order, what it does to ports,
+-- in order, and what it comes to.
 pub record Effect : Type 0 where
   pub core : CoreData
   pub stored : List (ℕ × ℕ)
+  pub touched : List PortAccess
   pub outcome : Outcome
 
--- the lowest bytes of a value, so many, from an address on
-abbrev pub stores_from : ℕ → ℕ → ℕ → List (ℕ × ℕ)
-stores_from at zero value = []
-stores_from at (suc n) value = (at, value % 256) ∷ stores_from (next_address at) n (value / 256)
-
--- the core goes on, and nothing is stored
+-- the core goes on, nothing is stored, and no port is touched
 abbrev pub ran : CoreData → Effect
-ran core = record { core = core; stored = []; outcome = Ran }
+ran core = record { core = core; stored = []; touched = []; outcome = Ran }
 
 -- the core goes on at EL1, with an exception
 abbrev pub raised : CoreData → ℕ → Option ℕ → ℕ → Effect
@@ -55,11 +52,11 @@ raised core esr far back = ran (entered core (Sync esr far back))
 
 -- an exception goes to EL2
 abbrev pub left : CoreData → ℕ → ℕ → Effect
-left core esr far = record { core = core; stored = []; outcome = Leave esr far }
+left core esr far = record { core = core; stored = []; touched = []; outcome = Leave esr far }
 
 -- the step isn't built, and changes nothing
 abbrev pub unbuilt : CoreData → Effect
-unbuilt core = record { core = core; stored = []; outcome = Unbuilt }
+unbuilt core = record { core = core; stored = []; touched = []; outcome = Unbuilt }
 
 -- the syndrome of a class that says nothing more
 abbrev pub bare_syndrome : Class → ℕ
@@ -123,30 +120,41 @@ checked core instr shape judged =
     else if checks_alignment core && is_misaligned shape then misaligned core instr shape
     else judged
 
--- An access to a port is always aligned. One that is isn't built.
-abbrev pub port_effect : CoreData → Instr → MemShape → Effect
-port_effect core instr shape = if is_misaligned shape then misaligned core instr shape else unbuilt core
+-- An access to a port is always aligned.
+abbrev pub at_port : CoreData → Instr → MemShape → Effect → Effect
+at_port core instr shape aligned = if is_misaligned shape then misaligned core instr shape else aligned
 
 -- a load, and a store of a value, as they are judged
-abbrev pub load_effect : CoreData → ℕ → Instr → MemShape → Judged → Effect
-load_effect core now instr shape (Memory got) = ran (finished core now instr got)
-load_effect core now instr shape Port = port_effect core instr shape
-load_effect core now instr shape (Refused fault) = data_aborted core instr fault.stage2 (code_of fault.verdict) fault.at
+abbrev pub load_effect : Places → CoreData → ℕ → Instr → MemShape → Judged → Effect
+load_effect places core now instr shape (Memory got) = ran (finished core now instr got)
+load_effect places core now instr shape (Port got) =
+    at_port core instr shape
+    (record (ran (finished core now instr got)) { touched = elements_read places shape.at shape.width shape.count })
+load_effect places core now instr shape (Refused fault) =
+    data_aborted core instr fault.stage2 (code_of fault.verdict) fault.at
 
-abbrev pub store_effect : CoreData → ℕ → Instr → MemShape → ℕ → Judged → Effect
-store_effect core now instr shape value (Memory got) =
+-- of a value
+abbrev pub store_effect : Places → CoreData → ℕ → Instr → MemShape → ℕ → Judged → Effect
+store_effect places core now instr shape value (Memory got) =
     record (ran (finished core now instr 0)) { stored = stores_from shape.at (bytes_of shape) value }
-store_effect core now instr shape value Port = port_effect core instr shape
-store_effect core now instr shape value (Refused fault) =
+store_effect places core now instr shape value (Port got) =
+    at_port core instr shape
+    (record (ran (finished core now instr 0)) {
+      stored = elements_stored places shape.at shape.width shape.count value;
+      touched = elements_written places shape.at shape.width shape.count value;
+    })
+store_effect places core now instr shape value (Refused fault) =
     data_aborted core instr fault.stage2 (code_of fault.verdict) fault.at
 
 -- What an instruction does that asks for this. An exception that goes to EL2 and is no abort changes PC at most.
 abbrev pub effect_of : Reach → CoreData → ℕ → Instr → Need → Effect
 effect_of reach core now instr need.Done = ran (finished core now instr 0)
 effect_of reach core now instr (need.Load shape) =
-    checked core instr shape (load_effect core now instr shape (reach.loaded shape.at (bytes_of shape)))
+    checked core instr shape
+    (load_effect reach.places core now instr shape (reach.loaded shape.at shape.width shape.count))
 effect_of reach core now instr (need.Store shape value) =
-    checked core instr shape (store_effect core now instr shape value (reach.storable shape.at (bytes_of shape)))
+    checked core instr shape
+    (store_effect reach.places core now instr shape value (reach.storable shape.at shape.width shape.count))
 effect_of reach core now instr (need.Raise esr back) = raised core esr None back
 effect_of reach core now instr (need.Leave esr behind) = left (if behind then advanced core else core) esr 0
 effect_of reach core now instr need.Unbuilt = unbuilt core
@@ -156,7 +164,7 @@ abbrev pub word_effect : Reach → CoreData → ℕ → Judged → Effect
 word_effect reach core now (Memory word) =
     if illegal_state core.pstate then raised core (bare_syndrome IllegalState) None core.pc
     else effect_of reach core now (decoded word) (wanted core (decoded word))
-word_effect reach core now Port = unbuilt core
+word_effect reach core now (Port got) = unbuilt core
 word_effect reach core now (Refused fault) = fetch_aborted core fault
 
 -- What a step does at the system count `now`. A PC that isn't a multiple of 4 makes no fetch.

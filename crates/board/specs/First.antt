@@ -1,15 +1,10 @@
 -- What the first fault of an access is, in the words of the whole access: a law of `first_fault`.
 use Rattle.std.specs.Prelude.{◌≡◌, ℕ, zero, suc, ◌<◌, Bool, true, false, IsTrue, IsFalse, Option, None, Some}
-use Rattle.bao_types.specs.Bytes.{next_address}
 use Rattle.bao_types.specs.declared.access.Access.{Access}
 use Rattle.board.specs.declared.judged.Fault.{Fault}
 use Rattle.board.specs.Stage.{Stage, is_allowed, both}
+use Rattle.board.specs.Ports.{address_from}
 use Rattle.board.specs.Judge.{all_from, first_fault}
-
--- the address of a byte of an access, by its number
-abbrev pub address_from : ℕ → ℕ → ℕ
-address_from at zero = at
-address_from at (suc k) = address_from (next_address at) k
 
 -- so many bytes from an address on are allowed by both stages
 abbrev pub AreAllowed : Stage → Stage → Access → ℕ → ℕ → Type 0

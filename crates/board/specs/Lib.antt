@@ -1,4 +1,5 @@
 pub mod Stage
+pub mod Ports
 pub mod Judge
 pub mod First
 pub mod Attempt

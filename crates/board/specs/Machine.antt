@@ -1,20 +1,23 @@
 -- The state of a board, as the hypervisor sees it, and what each call makes of it.
-use Rattle.std.specs.Prelude.{◌≡◌, ℕ, ◌+◌, ◌-◌, ◌<◌, ◌≤◌, ◌==◌, ◌&&◌, ◌⊎◌, nat_le, nat_lt, Bool, true, if◌then◌else◌, IsTrue, IsFalse, List, [], ◌∷◌, All, map, length, replicate, slice_index, slice_index_or, slice_set, sum}
+use Rattle.std.specs.Prelude.{◌≡◌, ℕ, ◌+◌, ◌-◌, ◌%◌, ◌<◌, ◌≤◌, ◌==◌, ◌&&◌, ◌⊎◌, nat_le, nat_lt, Bool, true, if◌then◌else◌, IsTrue, IsFalse, List, [], ◌∷◌, All, map, length, replicate, slice_index, slice_index_or, slice_set, sum}
 use Rattle.std.specs.List.{AllPairs, list_any}
 use Rattle.bao_types.specs.declared.region.Region.{Region}
 use Rattle.bao_types.specs.ByteRange.{address_space_end, end, is_in_one, lies_in, overlaps}
 use Rattle.bao_types.specs.Region.{no_region, access_permission, covers, is_enabled, is_execute_never}
-use Rattle.bao_types.specs.Shape.{ShapeData, event_limit, is_port_of, port_range}
+use Rattle.bao_types.specs.declared.shape.PortSpot.{PortSpot}
+use Rattle.bao_types.specs.Shape.{ShapeData, event_limit, port_range, port_size}
 use Rattle.a64_state.specs.Core.{CoreData}
 use Rattle.a64_state.specs.Registers.{reset_core}
+use Rattle.ports.specs.Registers.{after_input}
+use Rattle.board.specs.Ports.{Places, PortStates, places_of, is_port, port_count, with_port, all_accessed}
 use Rattle.board.specs.Stage.{by_regions, by_entries}
 use Rattle.board.specs.declared.board.Exit.{Exit}
 use Rattle.board.specs.declared.board.Exit.TheVariants as exit
 use Rattle.board.specs.Judge.{Reach, reach_of}
 use Rattle.board.specs.Attempt.{Outcome, Ran, Leave, Unbuilt, Effect, attempt}
 
--- bytes is all memory by address, 0 outside the used ranges; entries are each core's EL2 protection regions; console is what each
--- port by its id has put out; count is what the last step was handed; entered and spent count the steps and the events since
+-- bytes is all memory by address, 0 outside the used ranges; entries are each core's EL2 protection regions; ports is what each
+-- port keeps, by its number; count is what the last step was handed; entered and spent count the steps and the events since
 -- the board was fitted
 pub record Machine : Type 0 where
   pub fitted : Bool
@@ -22,7 +25,7 @@ pub record Machine : Type 0 where
   pub bytes : ℕ → ℕ
   pub cores : List CoreData
   pub entries : List (List Region)
-  pub console : ℕ → List ℕ
+  pub ports : PortStates
   pub count : ℕ
   pub entered : ℕ
   pub spent : ℕ
@@ -38,17 +41,20 @@ entries_at entries core = slice_index_or entries core []
 abbrev pub is_used : ShapeData → ℕ → Bool
 is_used shape = is_in_one (λ range. range) shape.used
 
--- the byte is one of a port's
-abbrev pub is_port : ShapeData → ℕ → Bool
-is_port shape = is_port_of shape.ports
+-- where the ports of a board stand
+abbrev pub port_places : List PortSpot → Places
+port_places = places_of (λ port. port.id) (λ port. port.base)
 
 -- What a board can be fitted with: at most eight banks, which don't overlap, end at or below 2^48 and have at most 64 MiB together;
--- ranges in use, each of which lies in one bank and overlaps no port; cores of at most 32 entries; and at most a million events
+-- ports of the standard list, each at a multiple of its size; ranges in use, each of which lies in one bank and overlaps no port;
+-- cores of at most 32 entries; and at most a million events
 pub record IsFittable (shape : ShapeData) : Type 0 where
   pub bank_count : length shape.banks ≤ 8
   pub banks_apart : AllPairs (λ one other. IsFalse (overlaps one other)) shape.banks
   pub bank_ends : All (λ bank. end bank ≤ address_space_end) shape.banks
   pub bank_sizes : sum (map (λ bank. bank.size) shape.banks) ≤ 0x4000000
+  pub port_numbers : All (λ port. port.id < port_count) shape.ports
+  pub port_bases : All (λ port. port.base % port_size ≡ 0) shape.ports
   pub used : All (λ range. IsTrue (list_any (lies_in range) shape.banks)) shape.used
   pub ports_apart : All (λ range. All (λ port. IsFalse (overlaps range (port_range port.base))) shape.ports) shape.used
   pub entry_counts : All (λ place. place.entries ≤ 32) shape.cores
@@ -63,7 +69,7 @@ fitted_with shape m =
       bytes = λ at. 0;
       cores = map (λ place. reset_core place.affinity) shape.cores;
       entries = map (λ place. replicate place.entries no_region) shape.cores;
-      console = m.console;
+      ports = m.ports;
       count = 0;
       entered = 0;
       spent = 0;
@@ -92,7 +98,7 @@ abbrev pub IsSafeEntry : ShapeData → Region → Type 0
 IsSafeEntry shape entry =
     IsTrue (is_enabled entry) → (access_permission entry ≡ 1) ⊎ (access_permission entry ≡ 3)
     → (at : ℕ) → IsTrue (covers entry at)
-    → IsTrue (is_used shape at) ⊎ (IsTrue (is_port shape at) × IsTrue (is_execute_never entry))
+    → IsTrue (is_used shape at) ⊎ (IsTrue (is_port (port_places shape.ports) at) × IsTrue (is_execute_never entry))
 
 -- the entry is set
 abbrev pub with_entry : Machine → ℕ → ℕ → Region → Machine
@@ -108,7 +114,7 @@ core_started shape core pc arg =
 -- what a core reaches, by its EL1 regions and its EL2 entries
 abbrev pub machine_reach : Machine → ℕ → Reach
 machine_reach m core =
-    reach_of (by_regions (core_at m.cores core)) (by_entries (entries_at m.entries core)) (is_port m.shape) m.bytes
+    reach_of (by_regions (core_at m.cores core)) (by_entries (entries_at m.entries core)) (port_places m.shape.ports) m.ports m.bytes
 
 -- what the core's next step does at a count
 abbrev pub step_attempt : Machine → ℕ → ℕ → Effect
@@ -125,8 +131,14 @@ abbrev pub stepped : Machine → ℕ → ℕ → Machine
 stepped m core now =
     record m {
       bytes = written (step_attempt m core now).stored m.bytes;
+      ports = all_accessed (step_attempt m core now).touched m.ports;
       cores = slice_set m.cores core (step_attempt m core now).core;
       count = now;
       entered = m.entered + 1;
       spent = m.spent + 1;
     }
+
+-- after a port is given a byte
+abbrev pub port_given : Machine → ℕ → ℕ → Machine
+port_given m port byte =
+    record m { ports = with_port port (after_input (m.ports port) byte) m.ports; spent = m.spent + 1 }

@@ -1,28 +1,45 @@
 -- What a step can disturb and what it can observe: laws of `attempt`, by which machine and model make each step.
-use Rattle.std.specs.Prelude.{◌≡◌, ℕ, Bool, ◌⊎◌, IsTrue, IsFalse}
+use Rattle.std.specs.Prelude.{◌≡◌, ℕ, Bool, ◌⊎◌, ◌||◌, IsTrue, IsFalse, Some}
 use Rattle.bao_types.specs.declared.access.Access.TheVariants.{Read, Write, Exec}
 use Rattle.a64_state.specs.Core.{CoreData}
-use Rattle.board.specs.Stage.{Stage, both}
-use Rattle.board.specs.Judge.{reaches, reach_of}
-use Rattle.board.specs.Attempt.{attempt}
+use Rattle.board.specs.Stage.{Stage, both, is_allowed}
+use Rattle.board.specs.Ports.{Places, PortStates, PortByte, all_accessed}
+use Rattle.board.specs.Judge.{reach_of}
+use Rattle.board.specs.Attempt.{Effect, attempt}
 use Rattle.board.specs.Machine.{written}
 
--- a step leaves each byte that one of both stages doesn't let its core write
+-- a stage lets its core read or write a byte of the port
+pub record ReachesPort (stage : Stage) (places : Places) (port : ℕ) : Type 0 where
+  pub at : ℕ
+  pub offset : ℕ
+  pub allowed : IsTrue (is_allowed (stage Read at) || is_allowed (stage Write at))
+  pub place : places at ≡ Some (record { port = port; offset = offset })
+
+-- an effect leaves each byte of memory that the stage doesn't let its core write, and each port of which it lets it neither read
+-- nor write a byte
+pub record LeavesTheRest (stage : Stage) (places : Places) (states : PortStates) (bytes : ℕ → ℕ) (effect : Effect) : Type 0 where
+  pub memory : (at : ℕ) → IsFalse (is_allowed (stage Write at)) → written effect.stored bytes at ≡ bytes at
+  pub ports : (port : ℕ) → (ReachesPort stage places port → ⊥) → all_accessed effect.touched states port ≡ states port
+
+-- so does a step, by both stages
 abbrev pub DisturbsNothingElse : Type 0
 DisturbsNothingElse =
-    (one two : Stage) (is_port : ℕ → Bool) (bytes : ℕ → ℕ) (core : CoreData) (now at : ℕ)
-    → IsFalse (reaches (both one two) is_port Write at)
-    → written (attempt (reach_of one two is_port bytes) core now).stored bytes at ≡ bytes at
+    (one two : Stage) (places : Places) (states : PortStates) (bytes : ℕ → ℕ) (core : CoreData) (now : ℕ)
+    → LeavesTheRest (both one two) places states bytes (attempt (reach_of one two places states bytes) core now)
 
 -- two memories are equal at each byte that a core may read or execute
-abbrev pub AreAlike : Stage → (ℕ → Bool) → (ℕ → ℕ) → (ℕ → ℕ) → Type 0
-AreAlike stage is_port left right =
-    (at : ℕ) → IsTrue (reaches stage is_port Read at) ⊎ IsTrue (reaches stage is_port Exec at) → left at ≡ right at
+abbrev pub AreAlike : Stage → (ℕ → ℕ) → (ℕ → ℕ) → Type 0
+AreAlike stage left right =
+    (at : ℕ) → IsTrue (is_allowed (stage Read at)) ⊎ IsTrue (is_allowed (stage Exec at)) → left at ≡ right at
 
--- a step over such two memories does the same: it shows nothing of the bytes that one of both stages lets its core neither
--- read nor execute
+-- and the ports of two machines, where it may read or write a byte of them
+abbrev pub ArePortsAlike : Stage → Places → PortStates → PortStates → Type 0
+ArePortsAlike stage places left right = (port : ℕ) → ReachesPort stage places port → left port ≡ right port
+
+-- A step over such memories and ports does the same: it shows nothing of the bytes that one of both stages lets its core neither
+-- read nor execute, and nothing of the ports of which they let it neither read nor write a byte.
 abbrev pub ObservesNothingElse : Type 0
 ObservesNothingElse =
-    (one two : Stage) (is_port : ℕ → Bool) (left right : ℕ → ℕ) (core : CoreData) (now : ℕ)
-    → AreAlike (both one two) is_port left right
-    → attempt (reach_of one two is_port left) core now ≡ attempt (reach_of one two is_port right) core now
+    (one two : Stage) (places : Places) (states others : PortStates) (left right : ℕ → ℕ) (core : CoreData) (now : ℕ)
+    → ArePortsAlike (both one two) places states others → AreAlike (both one two) left right
+    → attempt (reach_of one two places states left) core now ≡ attempt (reach_of one two places others right) core now

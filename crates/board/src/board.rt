@@ -1,4 +1,5 @@
-ghost use Rattle.std.specs.Prelude.{◌≡◌, ◌<◌, length, slice_index, slice_index_or, slice_set, OnOk, OnErr, true, false};
+ghost use Rattle.std.specs.Prelude.{◌≡◌, ◌<◌, length, slice_index, slice_index_or, slice_set, OnOk, OnErr, IsTrue, ◌==◌, true, false};
+ghost use Rattle.std.specs.List.{list_any};
 ghost use Rattle.bao_types.specs.Shape.{shape_data};
 
 use crate::CoreView;
@@ -24,24 +25,27 @@ pub enum Exit {
 
 /// A machine with memory, cores and ports, whose cores' EL2 entries decide what a guest may touch.
 ///
-/// A board is fitted once with its shape. Every call but `fit` and `entered` asks that it is fitted, and a core, entry or
+/// Its ports are those of the standard list: 0 to 7 are consoles, 8 to 11 scratch ports and 12 to 15 tickers. A board is fitted once with its shape. Every call but `fit` and `entered` asks that it is fitted, and a core, entry or
 /// port in a call is one of the shape's.
 pub trait Board {
     ghost use Rattle.board.specs.Machine.{Machine, IsFittable, fitted_with, over, AreUsed, IsSafeEntry, with_entry, entries_at, core_started, core_at, step_attempt, stepped, exit_of};
+    ghost use Rattle.board.specs.Machine.{port_given};
     ghost use Rattle.bao_types.specs.Region.{no_region, IsWithinMasks};
+    ghost use Rattle.board.specs.Ports.{outputs, port_count, standard_ports};
     ghost use Rattle.board.specs.View.{view_of};
 
     /// What the board is at a moment.
     ghost state: { Self → Machine };
 
-    /// Fits the board: memory and entries are zero, the cores are reset, and the ports stay as they are. After a refusal
-    /// the board isn't fitted.
+    /// Fits the board: memory and entries are zero, the cores are reset, and the ports, which are newly made, stay as they
+    /// are and have room for the events. After a refusal the board isn't fitted.
     fn fit(&mut self, alloc: Global, shape: &Shape) -> Result<(), OutOfMemory>
         requires unfitted { (state self.old).fitted ≡ false }
         requires fittable { IsFittable (shape_data shape.now) }
+        requires new { (state self.old).ports ≡ standard_ports }
         ensures ok { OnOk result (state self.new ≡ fitted_with (shape_data shape.now) (state self.old)) }
         ensures err { OnErr result ((state self.new).fitted ≡ false) }
-        ensures ports { OnErr result ((state self.new).console ≡ (state self.old).console) };
+        ensures ports { OnErr result ((state self.new).ports ≡ (state self.old).ports) };
 
     /// Copies the bytes of an image into memory, from the address `at` on.
     fn load(&mut self, at: u64, bytes: &[u8])
@@ -83,6 +87,13 @@ pub trait Board {
         ensures state { state self.new ≡ stepped (state self.old) core now }
         ensures exit { result ≡ exit_of (step_attempt (state self.old) core now).outcome };
 
+    /// Gives a port, which the shape has, a byte.
+    fn port_input(&mut self, port: u8, byte: u8)
+        requires fitted { (state self.old).fitted ≡ true }
+        requires port { IsTrue (list_any (λ spot. spot.id == port) (state self.old).shape.ports) }
+        requires spent { (state self.old).spent < (state self.old).shape.events }
+        ensures { state self.new ≡ port_given (state self.old) port byte };
+
     /// The byte at an address: 0 where no memory is in use.
     fn byte_at(&self, at: u64) -> u8
         requires { (state self.now).fitted ≡ true }
@@ -94,18 +105,18 @@ pub trait Board {
         requires core { core < length (state self.now).shape.cores }
         ensures { result ≡ view_of (core_at (state self.now).cores core) };
 
-    /// How many bytes a port has put out.
+    /// How many bytes a port has put out; 0 where it is no console.
     fn port_len(&self, port: u8) -> u32
         requires fitted { (state self.now).fitted ≡ true }
-        requires port { port < 16 }
-        ensures { result ≡ length ((state self.now).console port) };
+        requires port { port < port_count }
+        ensures { result ≡ length (outputs (state self.now).ports port) };
 
     /// One of the bytes that a port has put out.
     fn port_byte(&self, port: u8, i: u32) -> u8
         requires fitted { (state self.now).fitted ≡ true }
-        requires port { port < 16 }
-        requires place { i < length ((state self.now).console port) }
-        ensures { result ≡ slice_index ((state self.now).console port) i };
+        requires port { port < port_count }
+        requires place { i < length (outputs (state self.now).ports port) }
+        ensures { result ≡ slice_index (outputs (state self.now).ports port) i };
 
     /// How many steps have been taken since the board was fitted.
     fn entered(&self) -> u64

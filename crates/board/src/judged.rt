@@ -16,8 +16,9 @@ pub struct Fault {
 pub enum Judged {
     /// All are allowed and none is a port's: the number that they are, the least byte first.
     Memory(u128),
-    /// All are allowed, and some are a port's.
-    Port,
+    /// All are allowed, and some are a port's: the number that is read, element by element, the first of them lowest. For
+    /// a store it means nothing.
+    Port(u128),
     /// One is refused.
     Refused(Fault),
 }

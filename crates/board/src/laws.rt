@@ -9,16 +9,17 @@ pub fn a_fault_is_of_the_first_refused_byte()
     ensures { FaultsAreFirst }
 {}
 
-/// A step of a core, on the machine and in the model, leaves each byte that one of both stages doesn't let it write.
-/// The function does nothing; its contract is the law.
+/// A step of a core, on the machine and in the model, leaves each byte that one of both stages doesn't let it write, and
+/// each port of which they let it neither read nor write a byte. The function does nothing; its contract is the law.
 #[tactic(auto, using(crate::proofs::Reached::disturbs_nothing_else))]
 pub fn a_step_disturbs_nothing_else()
     ensures { DisturbsNothingElse }
 {}
 
 /// A step of a core does the same over any two memories that are equal at each byte that both stages let it read
-/// or execute: nothing of the others shows in its registers, in what it stores, or in whether it is built. The function
-/// does nothing; its contract is the law.
+/// or execute, and any two states of the ports that are equal for those of which they let it read or write a byte: nothing
+/// of the others shows in its registers, in what it stores, in what it does to ports, or in whether it is built. The
+/// function does nothing; its contract is the law.
 #[tactic(auto, using(crate::proofs::Reached::observes_nothing_else))]
 pub fn a_step_observes_nothing_else()
     ensures { ObservesNothingElse }

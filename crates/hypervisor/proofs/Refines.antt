@@ -1,15 +1,17 @@
 -- A core whose entries realise the map steps on the board as in the model.
-use Rattle.std.proofs.Common.{◌≡◌, ℕ, List, [], ◌∷◌, map, refl, sym, ap, ◌∙◌}
-use Rattle.std.specs.Prelude.{IsTrue, if◌then◌else◌, ◌&&◌, ◌||◌, slice_set}
-use Rattle.bao_types.specs.ByteRange.{is_within, is_in_one}
-use Rattle.bao_types.specs.Shape.{is_port_of, port_range}
+use Rattle.std.proofs.Common.{◌≡◌, ℕ, ◌-◌, Bool, true, false, List, [], ◌∷◌, map, find, option_map, refl, sym, ap, ◌∙◌}
+use Rattle.std.specs.Prelude.{IsTrue, if◌then◌else◌, ◌&&◌, Some, slice_set}
+use Rattle.bao_types.specs.ByteRange.{is_within}
+use Rattle.bao_types.specs.declared.shape.PortSpot.{PortSpot}
+use Rattle.bao_types.specs.Shape.{ShapeData, port_range}
 use Rattle.bao_config.specs.Data.{ConfigData}
 use Rattle.bao_config.specs.declared.config.PortPlace.{PortPlace}
 use Rattle.bao_wellformed.specs.Map.{class_of, by_map}
 use Rattle.board.specs.Stage.{by_regions}
+use Rattle.board.specs.Ports.{PortByte, all_accessed, places_of}
 use Rattle.board.specs.Judge.{reach_of}
 use Rattle.board.specs.Attempt.{Outcome, Ran, Leave, Unbuilt, attempt}
-use Rattle.board.specs.Machine.{Machine, core_at, entries_at, is_port, written, machine_reach, exit_of, step_attempt, stepped}
+use Rattle.board.specs.Machine.{Machine, core_at, entries_at, port_places, written, machine_reach, exit_of, step_attempt, stepped}
 use Rattle.hypervisor.specs.Shape.{port_spot, shape_of}
 use Rattle.hypercalls.specs.declared.power.Power.{Power}
 use Rattle.vm_model.specs.Flat.{Step, runs, flat_reach, flat_attempt, powers_after, flat_stepped, flat_step, is_outcome_unbuilt, is_event_unbuilt}
@@ -19,11 +21,19 @@ use Rattle.hypervisor.specs.Steps.{StepsAlike, step_is_unbuilt}
 use Rattle.hypervisor.specs.Taken.{powers_left, is_exit_unbuilt}
 use Rattle.hypervisor.proofs.Realises.{verdicts_alike}
 
--- the ports that the board of a configuration has are those of its platform
-ports_alike : (cfg : ConfigData) (ports : List PortPlace) (at : ℕ)
-    → is_port_of (map (port_spot cfg) ports) at ≡ is_in_one (λ port. port_range port.base) ports at
-ports_alike cfg [] at = refl
-ports_alike cfg (port ∷ ports) at = ap (λ b. is_within (port_range port.base) at || b) (ports_alike cfg ports at)
+-- the ports of the board of a configuration stand where those of its platform do
+places_alike : (cfg : ConfigData) (ports : List PortPlace) (at : ℕ)
+    → port_places (map (port_spot cfg) ports) at ≡ places_of (λ port. port.id) (λ port. port.base) ports at
+places_alike cfg [] at = refl
+places_alike cfg (port ∷ ports) at = by_test (is_within (port_range port.base) at) (places_alike cfg ports at)
+  where
+    by_test : (here : Bool) → port_places (map (port_spot cfg) ports) at ≡ places_of (λ port. port.id) (λ port. port.base) ports at
+        → option_map {U = PortByte} (λ (spot : PortSpot). record { port = spot.id; offset = at - spot.base })
+        (if here then Some (port_spot cfg port) else find (λ spot. is_within (port_range spot.base) at) (map (port_spot cfg) ports))
+        ≡ option_map {U = PortByte} (λ (place : PortPlace). record { port = place.id; offset = at - place.base })
+        (if here then Some port else find (λ place. is_within (port_range place.base) at) ports)
+    by_test true rest = refl
+    by_test false rest = rest
 
 -- a core whose entries realise the map
 module _ (cfg : ConfigData) (m : Machine) (powers : List Power) (core now : ℕ)
@@ -32,11 +42,10 @@ module _ (cfg : ConfigData) (m : Machine) (powers : List Power) (core now : ℕ)
   -- what it reaches is what it reaches by the map
   reach_alike : machine_reach m core ≡ flat_reach cfg (project powers m) core
   reach_alike =
-      ap (λ two. reach_of (by_regions (core_at m.cores core)) two (is_port m.shape) m.bytes)
-      (verdicts_alike (entries_at m.entries core) cfg core realised)
-      ∙ ap (λ shape. reach_of (by_regions (core_at m.cores core)) (by_map cfg core) (is_port shape) m.bytes) shaped
-      ∙ ap (λ ports. reach_of (by_regions (core_at m.cores core)) (by_map cfg core) ports m.bytes)
-      (λ i at. ports_alike cfg cfg.platform.ports at i)
+      let one = by_regions (core_at m.cores core) in
+      ap (λ two. reach_of one two (port_places m.shape.ports) m.ports m.bytes) (verdicts_alike (entries_at m.entries core) cfg core realised)
+      ∙ ap (λ (shape : ShapeData). reach_of one (by_map cfg core) (port_places shape.ports) m.ports m.bytes) shaped
+      ∙ ap (λ places. reach_of one (by_map cfg core) places m.ports m.bytes) (λ i at. places_alike cfg cfg.platform.ports at i)
 
   -- so its next step does for the board what it does for the flat machine
   attempt_alike : step_attempt m core now ≡ flat_attempt cfg (project powers m) core now
@@ -52,6 +61,7 @@ module _ (cfg : ConfigData) (m : Machine) (powers : List Power) (core now : ℕ)
   stepped_alike =
       ap (λ a. project (powers_after cfg core a.outcome powers) (record m {
         bytes = written a.stored m.bytes;
+        ports = all_accessed a.touched m.ports;
         cores = slice_set m.cores core a.core;
         count = now;
       })) attempt_alike

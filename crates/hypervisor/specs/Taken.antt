@@ -3,7 +3,7 @@ use Rattle.std.specs.Prelude.{ℕ, ◌&&◌, not, Bool, true, false, if◌then�
 use Rattle.bao_config.specs.Data.{ConfigData}
 use Rattle.board.specs.declared.board.Exit.{Exit}
 use Rattle.board.specs.declared.board.Exit.TheVariants as exit
-use Rattle.board.specs.Machine.{Machine, exit_of, step_attempt, stepped}
+use Rattle.board.specs.Machine.{Machine, exit_of, port_given, step_attempt, stepped}
 use Rattle.hypercalls.specs.declared.power.Power.{Power}
 use Rattle.hypercalls.specs.declared.power.Power.TheVariants.{Parked}
 use Rattle.vm_model.specs.Flat.{runs}
@@ -44,7 +44,7 @@ is_step_unbuilt cfg powers m core count =
 -- after an event, and whether all of that is built
 abbrev pub after_event : ConfigData → List Power → Machine → Event → Machine
 after_event cfg powers m (Step core count) = taken cfg powers m core count
-after_event cfg powers m (Input port byte) = m
+after_event cfg powers m (Input port byte) = port_given m port byte
 
 abbrev pub event_powers : ConfigData → List Power → Machine → Event → List Power
 event_powers cfg powers m (Step core count) = taken_powers cfg powers m core count
@@ -52,4 +52,4 @@ event_powers cfg powers m (Input port byte) = powers
 
 abbrev pub is_built : ConfigData → List Power → Machine → Event → Bool
 is_built cfg powers m (Step core count) = not (is_step_unbuilt cfg powers m core count)
-is_built cfg powers m (Input port byte) = false
+is_built cfg powers m (Input port byte) = true

@@ -7,7 +7,7 @@ ghost use Rattle.bao_wellformed.specs.Map.{owner};
 ghost use Rattle.vm_model.specs.Boot.{boot_power, boot_powers};
 ghost use Rattle.vm_model.specs.Flat.{flat_step, is_entered, is_event_unbuilt, is_on};
 ghost use Rattle.vm_model.specs.Project.{project};
-ghost use Rattle.hypervisor.specs.Event.{flat_event, IsPlaced};
+ghost use Rattle.hypervisor.specs.Event.{flat_event, IsOnBoard, IsPlaced};
 ghost use Rattle.hypervisor.specs.Hyp.{power_of};
 ghost use Rattle.hypervisor.specs.Tidy.{Tidy};
 ghost use Rattle.hypervisor.specs.Taken.{after_event, event_powers, is_built, is_exit_unbuilt, is_step_unbuilt, powers_left, taken, taken_powers};
@@ -66,7 +66,7 @@ impl Hyp {
     }
 
     /// Takes an event, which is a step of the model on the machine for which hypervisor and board stand. It answers whether
-    /// all of it is built; an input isn't, and changes nothing.
+    /// all of it is built.
     pub fn event<B: Board>(&mut self, checked: &Checked, board: &mut B, event: &Event) -> bool
         requires tidy { Tidy (checked_data checked.now) self.old (B.state board.old) }
         requires placed { IsPlaced (checked_data checked.now) event.now }
@@ -89,7 +89,7 @@ impl Hyp {
     /// What an event does on the machine, and to the powers.
     fn take<B: Board>(&mut self, config: &Config, board: &mut B, event: &Event) -> bool
         requires fitted { (B.state board.old).fitted ≡ true }
-        requires placed { IsPlaced (config_data config.now) event.now }
+        requires placed { IsOnBoard (B.state board.old).shape event.now }
         requires cores { length (B.state board.old).shape.cores ≡ length (config_data config.now).platform.cores }
         requires powers { length self.old.powers ≡ length (config_data config.now).platform.cores }
         requires spent { (B.state board.old).spent < (B.state board.old).shape.events }
@@ -99,7 +99,10 @@ impl Hyp {
     {
         match *event {
             Event::Step { core, count } => self.step(config, board, core, count),
-            Event::Input { port: _, byte: _ } => false,
+            Event::Input { port, byte } => {
+                board.port_input(port, byte);
+                true
+            }
         }
     }
 

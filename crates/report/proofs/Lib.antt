@@ -6,3 +6,4 @@ pub mod Memory
 pub mod Lists
 pub mod Vms
 pub mod Shown
+pub mod Summarised

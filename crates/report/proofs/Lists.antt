@@ -1,11 +1,12 @@
 -- Texts of lists, element by element: what is left before an element and behind it, and behind the last.
 use Rattle.std.proofs.Common.{◌≡◌, ℕ, suc, ◌+◌, ◌<◌, ◌≤◌, List, [], ◌++◌, length, get_or, drop, map, refl, sym, ap, subst, ◌∙◌, add-one, arith, drop-cons}
 use Rattle.std.proofs.Math.ListN.{drop_of_length-le}
+use Rattle.std.specs.List.{flat_map}
 use Rattle.std.specs.Prelude.{Option}
 use Rattle.bao_types.specs.declared.region.Region.{Region}
 use Rattle.bao_config.specs.declared.config.Dev.{Dev}
 use Rattle.bao_config.specs.declared.config.Vm.{Vm}
-use Rattle.bao_config.specs.Data.{ConfigData, vm_data}
+use Rattle.bao_config.specs.Data.{ConfigData, VmData, vm_data}
 use Rattle.mpu_packer.specs.declared.entries.Plan.{Plan}
 use Rattle.outside.specs.Sink.{grown, TakesPart}
 use Rattle.outside.proofs.Puts.{Reached, further, finished, stopped}
@@ -60,6 +61,16 @@ sections_next cfg f vms i vm low at =
 pub sections_none : (cfg : ConfigData) (f : Flat) (vms : List Vm) (i : ℕ) → length vms ≤ i → sections cfg f (map vm_data (drop i vms)) ≡ []
 unfolding sections
 sections_none cfg f vms i high = rw (drop_of_length-le vms high) refl
+
+-- the lines of the VMs in a summary
+pub summaries_next : (line : VmData → List ℕ) (vms : List Vm) (i : ℕ) (vm : Vm) → i < length vms → vm ≡ get_or vms i vm
+    → flat_map line (map vm_data (drop i vms)) ≡ line (vm_data vm) ++ flat_map line (map vm_data (drop (i + 1) vms))
+summaries_next line vms i vm low at =
+    rw add-one (ap (λ v. flat_map line (map vm_data v)) (drop-cons vms i vm low)
+    ∙ ap (λ v. line (vm_data v) ++ flat_map line (map vm_data (drop (suc i) vms))) (sym at))
+
+pub summaries_none : (line : VmData → List ℕ) (vms : List Vm) (i : ℕ) → length vms ≤ i → flat_map line (map vm_data (drop i vms)) ≡ []
+summaries_none line vms i high = rw (drop_of_length-le vms high) refl
 
 -- the packings of the cores
 abbrev pub entries_of : Plan → List Region

@@ -13,6 +13,8 @@ use Rattle.board.specs.View.{view_of}
 use Rattle.vm_model.specs.Flat.{Flat, flat_run}
 use Rattle.vm_model.specs.Boot.{boot}
 use Rattle.vm_model.specs.Lone.{only, view, lone}
+use Rattle.ports.specs.PortState.{output_of}
+use Rattle.board.specs.Ports.{outputs}
 use Rattle.report.specs.Lines.{vm_line, end_line, console_line, memory_line}
 use Rattle.report.specs.Section.{power_line, registers_text, core_text, cores_text, is_console, console_text, consoles_text, run_of, is_memory, are_zero, group_text, memory_text, all_groups, vm_text, section_of, section}
 use Rattle.vm_model.specs.Agree.{is_present, Agree}
@@ -27,7 +29,7 @@ memory_present (Port id) h = refl
 memory_present (Window shmem write) h = refl
 memory_present Hole h = cc
 
-in_rest : (b rest : Bool) → IsTrue rest → IsTrue (b || rest)
+pub in_rest : (b rest : Bool) → IsTrue rest → IsTrue (b || rest)
 in_rest true rest h = refl
 in_rest false rest h = h
 
@@ -59,14 +61,14 @@ module _ (cfg : ConfigData) (vm : VmData) (f g : Flat) (agree : Agree cfg vm f g
       ∙ ap (λ t. core_text g j core ++ t) (cores_alike (j + 1) cores (λ c h. all c (in_rest (core == c) _ h)))
 
   consoles_alike : (devs : List Dev) → ((port : ℕ) → IsTrue (list_any (λ dev. dev.port == port) devs) → IsTrue (has_port port vm))
-      → consoles_text f.console devs ≡ consoles_text g.console devs
+      → consoles_text (outputs f.ports) devs ≡ consoles_text (outputs g.ports) devs
   unfolding consoles_text console_text
   consoles_alike [] all = refl
   consoles_alike (dev ∷ devs) all =
       let self : (dev.port == dev.port) ≡ true = grind (arith, nat_tests) in
-      ap (λ output. (if is_console dev.port then console_line dev.port output else []) ++ consoles_text f.console devs)
-      (agree.consoles dev.port (all dev.port (rw self refl)))
-      ∙ ap (λ t. console_text g.console dev ++ t)
+      ap (λ output. (if is_console dev.port then console_line dev.port output else []) ++ consoles_text (outputs f.ports) devs)
+      (ap output_of (agree.ports dev.port (all dev.port (rw self refl))))
+      ∙ ap (λ t. console_text (outputs g.ports) dev ++ t)
       (consoles_alike devs (λ port h. all port (in_rest (dev.port == port) _ h)))
 
   by_memory : (at : ℕ) (m : Bool) → is_memory (kind_at cfg vm at) ≡ m → at % 16 ≡ 0
@@ -89,11 +91,11 @@ module _ (cfg : ConfigData) (vm : VmData) (f g : Flat) (agree : Agree cfg vm f g
   pub text_alike : vm_text cfg f vm ≡ vm_text cfg g vm
   unfolding vm_text
   text_alike =
-      ap (λ t. vm_line vm.name ++ (t ++ (consoles_text f.console vm.devs ++ (memory_text (kind_at cfg vm) f.bytes all_groups 0 ++ end_line vm.name))))
+      ap (λ t. vm_line vm.name ++ (t ++ (consoles_text (outputs f.ports) vm.devs ++ (memory_text (kind_at cfg vm) f.bytes all_groups 0 ++ end_line vm.name))))
       (cores_alike 0 vm.cores (λ c h. h))
       ∙ ap (λ t. vm_line vm.name ++ (cores_text g 0 vm.cores ++ (t ++ (memory_text (kind_at cfg vm) f.bytes all_groups 0 ++ end_line vm.name))))
       (consoles_alike vm.devs (λ port h. h))
-      ∙ ap (λ t. vm_line vm.name ++ (cores_text g 0 vm.cores ++ (consoles_text g.console vm.devs ++ (t ++ end_line vm.name))))
+      ∙ ap (λ t. vm_line vm.name ++ (cores_text g 0 vm.cores ++ (consoles_text (outputs g.ports) vm.devs ++ (t ++ end_line vm.name))))
       (memory_alike all_groups 0 refl)
 
 -- what is shown of a VM doesn't depend on the list of VMs

@@ -3,5 +3,6 @@ pub mod Lines
 pub mod Section
 pub mod Groups
 pub mod Packing
+pub mod Summary
 pub mod Alone
 pub mod Status

@@ -12,6 +12,7 @@ use Rattle.board.specs.View.{view_of}
 use Rattle.hypercalls.specs.declared.power.Power.{Power}
 use Rattle.hypercalls.specs.declared.power.Power.TheVariants.{On, Off, Parked}
 use Rattle.vm_model.specs.Flat.{Flat}
+use Rattle.board.specs.Ports.{outputs}
 use Rattle.report.specs.Lines.{vm_line, end_line, core_on_line, core_off_line, core_parked_line, register_line, nonzero_line, x_name, console_line, memory_line, done_line}
 
 -- the general registers from a number on
@@ -105,7 +106,7 @@ unfoldable pub vm_text : ConfigData → Flat → VmData → List ℕ
 vm_text cfg f vm =
     vm_line vm.name
     ++ (cores_text f 0 vm.cores
-    ++ (consoles_text f.console vm.devs
+    ++ (consoles_text (outputs f.ports) vm.devs
     ++ (memory_text (kind_at cfg vm) f.bytes all_groups 0 ++ end_line vm.name)))
 
 abbrev pub section_of : ConfigData → Flat → Option VmData → List ℕ

@@ -22,7 +22,6 @@ file_text (Image vm) = codes "image " ++ decimal vm
 file_text Schedule = codes "schedule"
 
 abbrev pub part_text : Part → List ℕ
-part_text part.Words = codes "words"
 part_text (part.Event number) = codes "event " ++ decimal number
 
 -- a place in a list, `-` where a rule names none

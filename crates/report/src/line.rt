@@ -26,6 +26,16 @@ pub fn push_decimal(line: &mut Line, number: u32)
     push_text(line, digits.format(number).as_bytes());
 }
 
+/// Appends a number of 64 bits, without leading zeros: at most 20 digits.
+pub fn push_long_decimal(line: &mut Line, number: u64)
+    requires { length line.old.items ≤ 140 }
+    ensures text { line.new.items ≡ line.old.items ++ decimal number }
+    ensures len { length line.new.items ≤ length line.old.items + 20 }
+{
+    let mut digits = itoa::Buffer::new();
+    push_text(line, digits.format(number).as_bytes());
+}
+
 /// Appends a number that may be negative, without leading zeros: at most 20 bytes.
 pub fn push_signed(line: &mut Line, number: i64)
     requires { length line.old.items ≤ 140 }

@@ -88,7 +88,6 @@ fn push_part(line: &mut Line, part: Part)
     ensures len { length line.new.items ≤ length line.old.items + 16 }
 {
     match part {
-        Part::Words => push_text(line, b"words"),
         Part::Event(number) => {
             push_text(line, b"event ");
             push_decimal(line, number);

@@ -1,5 +1,6 @@
 ghost use Rattle.std.specs.Prelude.{◌≡◌, ℕ, ◌+◌, ◌*◌, ◌<◌, ◌≤◌, ◌++◌, true, [], ◌∷◌, All, length};
 ghost use Rattle.outside.specs.Sink.{Takes, HasCause};
+ghost use Rattle.board.specs.Ports.{outputs};
 ghost use Rattle.report.specs.Lines.{console_line};
 ghost use Rattle.report.specs.Digits.{hex_bytes};
 ghost use Rattle.bao_types.specs.ByteRange.{address_space_end, end};
@@ -24,7 +25,7 @@ use hypervisor::Hyp;
 use outside::{Sink, SinkFailed};
 
 /// The ports below this number are consoles.
-const CONSOLES: u8 = 8;
+pub const CONSOLES: u8 = 8;
 
 /// How many groups of 16 bytes the address space has.
 const ALL_GROUPS: u64 = ADDRESS_SPACE_END / 16;
@@ -186,7 +187,7 @@ fn write_consoles<K: Sink, B: Board>(
     devs: &[Dev],
 ) -> Result<(), SinkFailed>
     requires fitted { (B.state board.now).fitted ≡ true }
-    ensures taken { Takes (K.taken sink.old) (K.taken sink.new) (consoles_text (B.state board.now).console devs.now) result }
+    ensures taken { Takes (K.taken sink.old) (K.taken sink.new) (consoles_text (outputs (B.state board.now).ports) devs.now) result }
     ensures cause { HasCause (K.faults sink.old) (K.faults sink.new) result }
 {
     for dev in devs {
@@ -199,7 +200,7 @@ fn write_consoles<K: Sink, B: Board>(
 #[tactic(auto, using(crate::proofs::Progress::nothing_taken), unfolding(crate::specs::Section::console_text))]
 fn write_console_of<K: Sink, B: Board>(sink: &mut K, board: &B, dev: &Dev) -> Result<(), SinkFailed>
     requires fitted { (B.state board.now).fitted ≡ true }
-    ensures taken { Takes (K.taken sink.old) (K.taken sink.new) (console_text (B.state board.now).console dev.now) result }
+    ensures taken { Takes (K.taken sink.old) (K.taken sink.new) (console_text (outputs (B.state board.now).ports) dev.now) result }
     ensures cause { HasCause (K.faults sink.old) (K.faults sink.new) result }
 {
     if dev.port >= CONSOLES {
@@ -213,7 +214,7 @@ fn write_console_of<K: Sink, B: Board>(sink: &mut K, board: &B, dev: &Dev) -> Re
 fn write_console<K: Sink, B: Board>(sink: &mut K, board: &B, port: u8) -> Result<(), SinkFailed>
     requires fitted { (B.state board.now).fitted ≡ true }
     requires port { port < 16 }
-    ensures taken { Takes (K.taken sink.old) (K.taken sink.new) (console_line port ((B.state board.now).console port)) result }
+    ensures taken { Takes (K.taken sink.old) (K.taken sink.new) (console_line port (outputs (B.state board.now).ports port)) result }
     ensures cause { HasCause (K.faults sink.old) (K.faults sink.new) result }
 {
     put_console_head(sink, port)?;
@@ -225,7 +226,7 @@ fn write_console<K: Sink, B: Board>(sink: &mut K, board: &B, port: u8) -> Result
 fn write_output<K: Sink, B: Board>(sink: &mut K, board: &B, port: u8) -> Result<(), SinkFailed>
     requires fitted { (B.state board.now).fitted ≡ true }
     requires port { port < 16 }
-    ensures taken { Takes (K.taken sink.old) (K.taken sink.new) (hex_bytes ((B.state board.now).console port)) result }
+    ensures taken { Takes (K.taken sink.old) (K.taken sink.new) (hex_bytes (outputs (B.state board.now).ports port)) result }
     ensures cause { HasCause (K.faults sink.old) (K.faults sink.new) result }
 {
     for i in 0..board.port_len(port) {

@@ -16,8 +16,6 @@ pub enum FileId {
 /// A part of the input that the program doesn't know yet.
 #[derive(Clone, Copy, Debug, PartialEq, Eq)]
 pub enum Part {
-    /// The command.
-    Words,
     /// The event of this number, from 0.
     Event(u32),
 }

@@ -4,3 +4,10 @@ pub mod Numbers
 pub mod Lines
 pub mod Spelled
 pub mod Reading
+pub mod Counts
+pub mod Drawn
+pub mod WorkloadFits
+pub mod WorkloadRules
+pub mod WorkloadRuns
+pub mod WorkloadEvents
+pub mod WorkloadRooms

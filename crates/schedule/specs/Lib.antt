@@ -6,3 +6,4 @@ pub mod Rules
 pub mod Schedule
 pub mod Lawful
 pub mod Answer
+pub mod Workload

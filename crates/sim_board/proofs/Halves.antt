@@ -1,11 +1,12 @@
 -- The bytes of an access in two parts, the second one behind the first.
-use Rattle.std.proofs.Common.{◌≡◌, ℕ, zero, suc, ◌+◌, ◌-◌, ◌*◌, ◌/◌, ◌%◌, ◌^◌, ◌<◌, ◌≤◌, Bool, true, false, ◌∷◌, refl, sym, ap, ◌∙◌, arith, lit<}
+use Rattle.std.proofs.Common.{◌≡◌, ℕ, zero, suc, ◌+◌, ◌-◌, ◌*◌, ◌/◌, ◌%◌, ◌^◌, ◌<◌, ◌≤◌, ◌⊎◌, inl, inr, Bool, true, false, ◌∷◌, refl, sym, ap, ◌∙◌, arith, lit<}
 use Rattle.std.specs.Prelude.{IsTrue, ◌&&◌}
 use Rattle.std.proofs.Math.Nat.{div-div-eq-div-mul, mul_assoc, pow-le-pow_right, pow-suc, pow-succ'}
 use Rattle.std.proofs.Math.Arith.{mod-mul}
 use Rattle.bao_types.specs.Bytes.{next_address}
-use Rattle.board.specs.Judge.{all_from, number_at}
-use Rattle.board.specs.Attempt.{stores_from}
+use Rattle.board.specs.Judge.{all_from}
+use Rattle.board.specs.Ports.{number_at}
+use Rattle.board.specs.Ports.{stores_from}
 use Rattle.board.specs.Machine.{with_byte, written}
 
 -- what is above the first part of a value
@@ -45,7 +46,7 @@ second : (a b : Bool) → IsTrue (a && b) → IsTrue b
 second true b all = all
 second false b all = cc
 
-pub first_part : (test : ℕ → Bool) (m n total at : ℕ) → total ≡ m + n → IsTrue (all_from test at total)
+first_part : (test : ℕ → Bool) (m n total at : ℕ) → total ≡ m + n → IsTrue (all_from test at total)
     → IsTrue (all_from test at m)
 first_part test zero n total at is all = refl
 first_part test (suc m) n total at is all =
@@ -106,3 +107,17 @@ stores_low at (suc n) value m le =
     ap (λ b. (at, b) ∷ stores_from (next_address at) n (value % 256 ^ m / 256)) first
     ∙ ap (λ r. (at, value % 256) ∷ stores_from (next_address at) n r) rest
     ∙ ap (λ s. (at, value % 256) ∷ s) (stores_low (next_address at) n (value / 256) k (omega (arith, le)))
+
+-- of one element or two the bytes of the first
+pub first_element : (test : ℕ → Bool) (width count at : ℕ) → (count ≡ 1) ⊎ (count ≡ 2) → IsTrue (all_from test at (width * count))
+    → IsTrue (all_from test at width)
+first_element test width count at (inl one) all =
+    let same : width * count ≡ width = rw one (omega arith) in sym (ap (λ n. all_from test at n) same) ∙ all
+first_element test width count at (inr two) all =
+    let double : width * count ≡ width + width = rw two (omega arith) in first_part test width width (width * count) at double all
+
+-- and of the second
+pub second_element : (test : ℕ → Bool) (width count at : ℕ) → count ≡ 2 → at < 2 ^ 64 → IsTrue (all_from test at (width * count))
+    → IsTrue (all_from test ((at + width) % 2 ^ 64) width)
+second_element test width count at two low all =
+    let double : width * count ≡ width + width = rw two (omega arith) in second_part test width width (width * count) at double low all

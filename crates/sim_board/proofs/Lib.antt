@@ -1,10 +1,13 @@
 pub mod Weaker
 pub mod Placed
-pub mod Confined
-pub mod Fresh
-pub mod Kept
 pub mod Same
 pub mod Judged
 pub mod Halves
 pub mod Stored
 pub mod Stopped
+pub mod Granule
+pub mod PortList
+pub mod Confined
+pub mod Kept
+pub mod Ways
+pub mod Standard

@@ -5,7 +5,7 @@ use Rattle.std.proofs.lemmas.Bool.Decides.{nat_tests}
 use Rattle.bao_types.specs.Bytes.{next_address, low_bytes}
 use Rattle.phys_bank.specs.Banks.{BanksData, byte_at, IsWritten}
 use Rattle.board.specs.Judge.{all_from}
-use Rattle.board.specs.Attempt.{stores_from}
+use Rattle.board.specs.Ports.{stores_from}
 use Rattle.board.specs.Machine.{with_byte, written}
 
 split : (b rest : Bool) → IsTrue (b && rest) → IsTrue b × IsTrue rest

@@ -1,6 +1,7 @@
 pub mod Memory
 pub mod Step
 pub mod Gap
-pub mod Guard
+pub mod Devices
+pub mod Reached
 pub mod Sound
 pub mod SimBoard

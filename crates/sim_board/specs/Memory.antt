@@ -1,17 +1,12 @@
 -- The bytes of a board's memory by address.
-use Rattle.std.specs.Prelude.{◌≡◌, ◌⊎◌, ℕ, Bool, false, Option, Some, None}
+use Rattle.std.specs.Prelude.{◌≡◌, ◌⊎◌, ℕ, Option, Some, None}
 use Rattle.bao_types.specs.Bytes.{IsWidth}
-use Rattle.phys_bank.specs.Banks.{BanksData, byte_at, is_kept}
+use Rattle.phys_bank.specs.Banks.{BanksData, byte_at}
 
 -- the bytes that a board keeps; none before it is fitted
 abbrev pub held_bytes : Option BanksData → ℕ → ℕ
 held_bytes None = λ at. 0
 held_bytes (Some memory) = byte_at memory
-
--- the byte is kept, if the board is fitted
-abbrev pub is_held : Option BanksData → ℕ → Bool
-is_held None at = false
-is_held (Some memory) at = is_kept memory at
 
 -- the bytes of an access: those of one element, or of a pair of doublewords; a pair of shorter ones has the bytes of one
 abbrev pub IsSpanned : ℕ → Type 0

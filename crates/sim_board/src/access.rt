@@ -1,32 +1,45 @@
 //! Fetches, loads and stores: each is judged as a whole, and nothing of it is done where a byte is refused.
-ghost use Rattle.std.specs.Prelude.{◌≡◌, ◌≤◌, if◌then◌else◌, IsTrue};
-ghost use Rattle.bao_types.specs.Shape.{is_port_of};
+ghost use Rattle.std.specs.Prelude.{◌≡◌, ◌+◌, ◌≤◌, ◌%◌, false, IsTrue};
+ghost use Rattle.bao_types.specs.Bytes.{IsWidth};
 ghost use Rattle.bao_types.specs.declared.access.Access.TheVariants.{Exec};
 ghost use Rattle.a64_execute.specs.Want.{bytes_of, IsAccess};
 ghost use Rattle.board.specs.Stage.{by_entries, by_regions};
-ghost use Rattle.board.specs.Judge.{all_from, fault_else, first_fault, is_free, number_at as number_from};
-ghost use Rattle.board.specs.Attempt.{stores_from};
-ghost use Rattle.board.specs.Machine.{written};
+ghost use Rattle.board.specs.Judge.{all_from, fault_else, first_fault, is_free};
+ghost use Rattle.board.specs.Attempt.{is_misaligned};
+ghost use Rattle.board.specs.Machine.{port_places, written};
+ghost use Rattle.board.specs.declared.judged.Judged.TheVariants.{Memory};
+ghost use Rattle.board.specs.Ports.{all_accessed, element_read, element_stored, element_value, element_written, elements_read, elements_stored, elements_value, elements_written, number_at as number_from};
 ghost use Rattle.phys_bank.specs.Banks.{byte_at, is_kept};
-ghost use Rattle.sim_board.specs.Guard.{guarded, IsContained};
+ghost use Rattle.sim_board.specs.Devices.{is_backed};
 ghost use Rattle.sim_board.specs.Memory.{IsSpanned};
-ghost use Rattle.sim_board.specs.Step.{is_memory, word_judged};
+ghost use Rattle.sim_board.specs.Step.{way_of, word_judged};
 
-use crate::guard::Guard;
+use crate::devices::{Devices, power};
 use crate::judge::first_fault;
-use crate::memory::{number_at, store as store_number};
+use crate::memory::{number_at, store, word_at};
 use a64_address::MemShape;
 use a64_state::Core;
 use bao_types::Access;
-use board::{Fault, Judged};
+use board::Fault;
 use phys_bank::Banks;
 use pmsa_table::Table;
+
+/// How a load or a store is carried out, once each of its bytes is judged.
+#[derive(Clone, Copy)]
+pub(crate) enum Way {
+    /// In memory: no byte is a port's.
+    Memory,
+    /// Element by element: some byte is a port's.
+    Port,
+    /// Not at all.
+    Refused(Fault),
+}
 
 /// The word at `pc`, a multiple of 4.
 #[inline(always)]
 pub(crate) fn fetch(core: &Core, memory: &Banks, table: &mut Table, pc: u64) -> Result<u32, Fault>
     ensures word { word_judged result
-        ≡ fault_else (first_fault (by_regions core.now) (by_entries table.old) Exec pc 4) (Judged.Memory (number_from (byte_at memory.now) pc 4)) }
+        ≡ fault_else (first_fault (by_regions core.now) (by_entries table.old) Exec pc 4) (Memory (number_from (byte_at memory.now) pc 4)) }
     ensures entries { table.new ≡ table.old }
 {
     match first_fault(core, table, Access::Exec, pc, 4) {
@@ -35,93 +48,132 @@ pub(crate) fn fetch(core: &Core, memory: &Banks, table: &mut Table, pc: u64) -> 
     }
 }
 
-/// The bytes of a load.
+/// How a load or a store is carried out.
 #[inline(always)]
-pub(crate) fn load(
+pub(crate) fn judge<D: Devices>(
     core: &Core,
-    memory: &Banks,
     table: &mut Table,
-    guard: &Guard<'_>,
+    devices: &D,
+    access: Access,
     shape: &MemShape,
-) -> Judged
+) -> Way
     requires { IsAccess shape.now }
-    ensures got { result
-        ≡ (guarded core.now table.old guard.now (byte_at memory.now)).loaded shape.now.at (bytes_of shape.now) }
+    ensures way { result ≡ way_of
+        (first_fault (by_regions core.now) (by_entries table.old) access shape.now.at (bytes_of shape.now))
+        (is_free (port_places (D.spots devices.now)) shape.now.at (bytes_of shape.now)) }
     ensures entries { table.new ≡ table.old }
 {
-    let count = byte_count(shape);
-    match first_fault(core, table, Access::Read, shape.at, count as u8) {
-        Some(fault) => Judged::Refused(fault),
-        None => read(memory, guard, shape.at, count),
+    let count = byte_count(shape) as u8;
+    match first_fault(core, table, access, shape.at, count) {
+        Some(fault) => Way::Refused(fault),
+        None => way_allowed(devices, shape.at, count),
     }
 }
 
-/// The number that so many bytes are, if none is a port's.
+/// How an access is carried out each of whose bytes is allowed.
 #[inline(always)]
-fn read(memory: &Banks, guard: &Guard<'_>, at: u64, count: u32) -> Judged
-    requires spanned { IsSpanned count }
-    requires bound { count ≤ 16 }
-    ensures { result ≡ (if is_free (is_port_of guard.now.ports.now) at count
-        then Judged.Memory (number_from (byte_at memory.now) at count) else Judged.Port) }
+fn way_allowed<D: Devices>(devices: &D, at: u64, count: u8) -> Way
+    ensures { result ≡ way_of None (is_free (port_places (D.spots devices.now)) at count) }
 {
-    if guard.is_free(at, count as u8) {
-        Judged::Memory(number_at(memory, at, count))
+    if devices.is_free(at, count) {
+        Way::Memory
     } else {
-        Judged::Port
+        Way::Port
     }
-}
-
-/// Stores the bytes of a store. What is stored is the least bytes of the value; the number in the answer means nothing.
-#[inline(always)]
-pub(crate) fn store(
-    core: &Core,
-    memory: &mut Banks,
-    table: &mut Table,
-    guard: &Guard<'_>,
-    shape: &MemShape,
-    value: u128,
-) -> Judged
-    requires access { IsAccess shape.now }
-    requires contained { IsContained (is_kept memory.old) table.old guard.now }
-    ensures kept { is_kept memory.new ≡ is_kept memory.old }
-    ensures entries { table.new ≡ table.old }
-    ensures stored { result
-        ≡ (guarded core.now table.old guard.now (byte_at memory.old)).storable shape.now.at (bytes_of shape.now) }
-    ensures bytes { byte_at memory.new ≡ (if is_memory result
-        then written (stores_from shape.now.at (bytes_of shape.now) value) (byte_at memory.old)
-        else byte_at memory.old) }
-{
-    let count = byte_count(shape);
-    match first_fault(core, table, Access::Write, shape.at, count as u8) {
-        Some(fault) => Judged::Refused(fault),
-        None => write(memory, guard, shape.at, count, value),
-    }
-}
-
-/// Stores so many bytes, if none is a port's.
-#[inline(always)]
-fn write(memory: &mut Banks, guard: &Guard<'_>, at: u64, count: u32, value: u128) -> Judged
-    requires spanned { IsSpanned count }
-    requires bound { count ≤ 16 }
-    requires used { IsTrue (is_free (is_port_of guard.now.ports.now) at count) → IsTrue (all_from (is_kept memory.old) at count) }
-    ensures kept { is_kept memory.new ≡ is_kept memory.old }
-    ensures stored { result ≡ (if is_free (is_port_of guard.now.ports.now) at count then Judged.Memory 0 else Judged.Port) }
-    ensures bytes { byte_at memory.new ≡ (if is_memory result
-        then written (stores_from at count value) (byte_at memory.old) else byte_at memory.old) }
-{
-    if !guard.is_free(at, count as u8) {
-        return Judged::Port;
-    }
-    store_number(memory, at, count, value);
-    Judged::Memory(0)
 }
 
 /// The bytes of an access.
-fn byte_count(shape: &MemShape) -> u32
+#[inline(always)]
+pub(crate) fn byte_count(shape: &MemShape) -> u32
     requires { IsAccess shape.now }
     ensures value { result ≡ bytes_of shape.now }
     ensures spanned { IsSpanned result }
     ensures bound { result ≤ 16 }
 {
     shape.width * u32::from(shape.count)
+}
+
+/// Reads the elements of a load, each in memory or in the port that has its first byte. The first of them is lowest.
+pub(crate) fn read_elements<D: Devices>(memory: &Banks, devices: &mut D, shape: &MemShape) -> u128
+    requires access { IsAccess shape.now }
+    requires aligned { is_misaligned shape.now ≡ false }
+    ensures value { result ≡ elements_value (port_places (D.spots devices.old)) (D.states devices.old) (byte_at memory.now)
+        shape.now.at shape.now.width shape.now.count }
+    ensures states { D.states devices.new
+        ≡ all_accessed (elements_read (port_places (D.spots devices.old)) shape.now.at shape.now.width shape.now.count) (D.states devices.old) }
+    ensures room { D.room devices.new ≡ D.room devices.old }
+    ensures spots { D.spots devices.new ≡ D.spots devices.old }
+{
+    let first = read_element(memory, devices, shape.at, shape.width);
+    if shape.count == 1 {
+        return u128::from(first);
+    }
+    let behind = shape.at.wrapping_add(u64::from(shape.width));
+    let second = read_element(memory, devices, behind, shape.width);
+    u128::from(second) * power(shape.width) + u128::from(first)
+}
+
+/// Reads one element.
+fn read_element<D: Devices>(memory: &Banks, devices: &mut D, at: u64, width: u32) -> u64
+    requires width { IsWidth width }
+    requires aligned { at % width ≡ 0 }
+    ensures value { result ≡ element_value (D.states devices.old) (byte_at memory.now) (port_places (D.spots devices.old) at) at width }
+    ensures states { D.states devices.new ≡ all_accessed (element_read (port_places (D.spots devices.old) at) width) (D.states devices.old) }
+    ensures room { D.room devices.new ≡ D.room devices.old }
+    ensures spots { D.spots devices.new ≡ D.spots devices.old }
+{
+    match devices.read(at, width) {
+        Some(got) => got,
+        None => word_at(memory, at, width),
+    }
+}
+
+/// Writes the elements of a store, each in memory or in the port that has its first byte, with the lowest bytes of the value
+/// first.
+pub(crate) fn write_elements<D: Devices>(
+    memory: &mut Banks,
+    devices: &mut D,
+    shape: &MemShape,
+    value: u128,
+)
+    requires access { IsAccess shape.now }
+    requires aligned { is_misaligned shape.now ≡ false }
+    requires backed { IsTrue (all_from (is_backed (D.spots devices.old) (is_kept memory.old)) shape.now.at (bytes_of shape.now)) }
+    requires room { 2 ≤ D.room devices.old }
+    ensures kept { is_kept memory.new ≡ is_kept memory.old }
+    ensures bytes { byte_at memory.new
+        ≡ written (elements_stored (port_places (D.spots devices.old)) shape.now.at shape.now.width shape.now.count value) (byte_at memory.old) }
+    ensures states { D.states devices.new
+        ≡ all_accessed (elements_written (port_places (D.spots devices.old)) shape.now.at shape.now.width shape.now.count value) (D.states devices.old) }
+    ensures room { D.room devices.old ≤ D.room devices.new + 2 }
+    ensures spots { D.spots devices.new ≡ D.spots devices.old }
+{
+    write_element(memory, devices, shape.at, shape.width, value);
+    if shape.count == 2 {
+        let behind = shape.at.wrapping_add(u64::from(shape.width));
+        write_element(
+            memory,
+            devices,
+            behind,
+            shape.width,
+            value / power(shape.width),
+        );
+    }
+}
+
+/// Writes one element.
+fn write_element<D: Devices>(memory: &mut Banks, devices: &mut D, at: u64, width: u32, value: u128)
+    requires width { IsWidth width }
+    requires aligned { at % width ≡ 0 }
+    requires backed { IsTrue (all_from (is_backed (D.spots devices.old) (is_kept memory.old)) at width) }
+    requires room { 1 ≤ D.room devices.old }
+    ensures kept { is_kept memory.new ≡ is_kept memory.old }
+    ensures bytes { byte_at memory.new ≡ written (element_stored (port_places (D.spots devices.old) at) at width value) (byte_at memory.old) }
+    ensures states { D.states devices.new ≡ all_accessed (element_written (port_places (D.spots devices.old) at) width value) (D.states devices.old) }
+    ensures room { D.room devices.old ≤ D.room devices.new + 1 }
+    ensures spots { D.spots devices.new ≡ D.spots devices.old }
+{
+    if !devices.write(at, width, value) {
+        store(memory, at, width, value);
+    }
 }

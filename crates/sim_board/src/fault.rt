@@ -3,7 +3,7 @@ ghost use Rattle.std.specs.Prelude.{◌≡◌, ◌<◌, ◌||◌, ◌&&◌, true
 ghost use Rattle.a64_execute.specs.Want.{IsAccess};
 ghost use Rattle.exceptions.specs.Entry.{entered};
 ghost use Rattle.exceptions.specs.Syndrome.{class_number, IsAbort};
-ghost use Rattle.board.specs.Attempt.{Effect, abort_class, aborted, checked, checks_alignment, checks_sp, code_of, data_aborted, fetch_aborted, is_misaligned, is_sp_misaligned, port_effect};
+ghost use Rattle.board.specs.Attempt.{Effect, abort_class, aborted, checked, checks_alignment, checks_sp, code_of, data_aborted, fetch_aborted, is_misaligned, is_sp_misaligned, misaligned};
 ghost use Rattle.sim_board.specs.Step.{Ends, is_stopped};
 
 use a64_address::MemShape;
@@ -58,7 +58,7 @@ fn checks_sp(core: &Core) -> bool
 }
 
 /// Whether the start of an access isn't a multiple of an element's width.
-fn is_misaligned(shape: &MemShape) -> bool
+pub(crate) fn is_misaligned(shape: &MemShape) -> bool
     requires { IsAccess shape.now }
     ensures { result ≡ is_misaligned shape.now }
 {
@@ -76,19 +76,15 @@ pub(crate) fn stop(core: &mut Core, instr: &Instr, shape: &MemShape) -> Exit
         let back = core.pc;
         return raise(core, syndrome(Class::SpAlignment, 0), None, back);
     }
-    data_abort(core, instr, false, ALIGNMENT, shape.at)
+    misalign(core, instr, shape)
 }
 
-/// An access that both stages allow and that reaches a port: aligned it isn't built.
+/// Takes the alignment fault of an access whose start isn't a multiple of an element's width.
 #[inline(never)]
-pub(crate) fn reach_port(core: &mut Core, instr: &Instr, shape: &MemShape) -> Exit
-    requires { IsAccess shape.now }
-    ensures { Ends (port_effect core.old instr.now shape.now) core.new result }
+pub(crate) fn misalign(core: &mut Core, instr: &Instr, shape: &MemShape) -> Exit
+    ensures { Ends (misaligned core.old instr.now shape.now) core.new result }
 {
-    if is_misaligned(shape) {
-        return data_abort(core, instr, false, ALIGNMENT, shape.at);
-    }
-    Exit::Unbuilt
+    data_abort(core, instr, false, ALIGNMENT, shape.at)
 }
 
 /// Takes the abort of a load or a store that is refused.

@@ -1,4 +1,4 @@
-//! The simulated machine: memory, cores and EL2 entries, behind the trait `Board`.
+//! The simulated machine: memory, cores, EL2 entries and device ports, behind the trait `Board`.
 //!
 //! A step fetches one word, which both stages of protection must allow at each of its bytes, and executes it; what it loads
 //! or stores they must allow at each byte too. What the instructions do is said in `a64_execute`, and what an exception at
@@ -9,10 +9,11 @@
 pub use machine::SimBoard;
 
 mod access;
+mod devices;
 mod fault;
 mod gap;
-mod guard;
 mod judge;
 mod machine;
 mod memory;
+mod spots;
 mod step;

@@ -1,21 +1,22 @@
-ghost use Rattle.std.specs.Prelude.{◌≡◌, ◌+◌, ◌≤◌, ◌<◌, false, length, slice_set, map, replicate, All, IfOk};
+ghost use Rattle.std.specs.Prelude.{◌≡◌, ℕ, ◌≤◌, ◌<◌, false, length, slice_set, map, replicate, All, IfOk};
 ghost use Rattle.bao_types.specs.Shape.{shape_data};
 ghost use Rattle.a64_state.specs.Registers.{reset_core};
 ghost use Rattle.bao_types.specs.Region.{no_region};
 ghost use Rattle.board.specs.Machine.{entries_at};
-ghost use Rattle.sim_board.specs.Gap.{IsGap};
+ghost use Rattle.board.specs.Ports.{port_count, standard_ports};
+ghost use Rattle.sim_board.specs.Devices.{states_of};
 ghost use Rattle.sim_board.specs.Sound.{IsSound};
 
-use crate::gap::Gap;
-use crate::guard::Guard;
+use crate::devices::{BoxedPorts, Devices};
 use crate::memory::copy_in;
 use crate::step::step_core;
 use a64_state::Core;
 use arrayvec::ArrayVec;
-use bao_types::{CorePlace, OutOfMemory, Region, Shape};
+use bao_types::{CorePlace, OutOfMemory, PortSpot, Region, Shape};
 use board::{Board, CoreView, Exit};
 use phys_bank::Banks;
 use pmsa_table::Table;
+use ports::Port;
 use std::alloc::{AllocError, Global};
 
 /// The simulated machine.
@@ -27,29 +28,30 @@ pub struct SimBoard {
     cores: Vec<Core>,
     /// The EL2 entries of each core, compiled.
     tables: Vec<Table>,
-    /// Where memory in use lies, as a rule.
-    gap: Gap,
+    devices: BoxedPorts,
     /// What the last step was handed.
     count: u64,
     entered: u64,
     spent: u64,
-    ghost sound: { IsSound shape memory (length cores.items) tables.items gap entered spent },
+    ghost sound: { IsSound shape memory (length cores.items) tables.items devices.spots.items entered spent },
 }
 
 impl SimBoard {
-    ghost use Rattle.sim_board.specs.SimBoard.{state_of};
-
-    /// A board that isn't fitted. It takes no memory.
-    pub fn new(alloc: Global) -> SimBoard
-        ensures unfitted { (state_of result).fitted ≡ false }
-        ensures entered { (state_of result).entered ≡ 0 }
+    /// A board with these ports that isn't fitted. It takes no memory.
+    pub fn new(alloc: Global, ports: Vec<Box<dyn Port>>) -> SimBoard
+        requires count { length ports.items ≡ port_count }
+        requires new { (port : ℕ) → port < port_count
+            → states_of (map (λ port. state port) ports.items) port ≡ standard_ports port }
+        ensures unfitted { (⟦<SimBoard as Board>⟧.state result).fitted ≡ false }
+        ensures entered { (⟦<SimBoard as Board>⟧.state result).entered ≡ 0 }
+        ensures ports { (⟦<SimBoard as Board>⟧.state result).ports ≡ standard_ports }
     {
         SimBoard {
             shape: Shape::default(),
             memory: None,
             cores: Vec::new(alloc),
             tables: Vec::new(alloc),
-            gap: Gap::NONE,
+            devices: BoxedPorts::new(ports),
             count: 0,
             entered: 0,
             spent: 0,
@@ -105,15 +107,19 @@ fn zeros(count: u8) -> ArrayVec<Region, 32>
     entries
 }
 
-/// A gap between the ports, around the first memory in use.
-fn gap_of(shape: &Shape) -> Gap
-    ensures { IsGap (shape_data shape.now).ports result }
+/// The places of the ports again.
+fn copy_spots(spots: &ArrayVec<PortSpot, 16>) -> Result<ArrayVec<PortSpot, 16>, AllocError>
+    ensures { IfOk result (λ copy. copy.items ≡ spots.now.items) }
 {
-    let at = match shape.used.first() {
+    spots.clone()
+}
+
+/// The first address of memory in use.
+fn first_used(shape: &Shape) -> u64 {
+    match shape.used.first() {
         Some(range) => range.base,
         None => 0,
-    };
-    Gap::around(&shape.ports, at)
+    }
 }
 
 /// Sets one entry of one core.
@@ -128,26 +134,32 @@ fn set_one(tables: &mut Vec<Table>, core: usize, index: usize, entry: Region)
 }
 
 impl Board for SimBoard {
+    ghost use Rattle.std.specs.Prelude.{map};
+    ghost use Rattle.sim_board.specs.Devices.{least_room, states_of};
     ghost use Rattle.sim_board.specs.SimBoard.{state_of};
 
-    ghost state = { state_of };
+    ghost state = { λ board. state_of
+        (states_of (map (λ port. (Port-box port).state port.value) board.devices.ports.items))
+        (least_room (map (λ port. (Port-box port).spare port.value) board.devices.ports.items))
+        board };
 
     fn fit(&mut self, alloc: Global, shape: &Shape) -> Result<(), OutOfMemory> {
+        // A board that is refused isn't fitted, whatever room its ports have by then.
+        self.memory = None;
+        self.devices.reserve(alloc, shape.events)?;
         let copy = copy_shape(shape)?;
+        let spots = copy_spots(&shape.ports)?;
         let memory = Banks::new(alloc, &shape.banks, &shape.used)?;
         let cores = reset_cores(alloc, &shape.cores)?;
         let tables = zero_tables(alloc, &shape.cores)?;
-        let gap = gap_of(&copy);
-        *self = SimBoard {
-            shape: copy,
-            memory: Some(memory),
-            cores,
-            tables,
-            gap,
-            count: 0,
-            entered: 0,
-            spent: 0,
-        };
+        self.devices.stand(spots, first_used(shape));
+        self.shape = copy;
+        self.memory = Some(memory);
+        self.cores = cores;
+        self.tables = tables;
+        self.count = 0;
+        self.entered = 0;
+        self.spent = 0;
         Ok(())
     }
 
@@ -184,15 +196,11 @@ impl Board for SimBoard {
             unreachable!()
         };
         let at = usize::from(core);
-        let guard = Guard {
-            ports: &self.shape.ports,
-            gap: self.gap,
-        };
         let exit = step_core(
             &mut self.cores[at],
             memory,
+            &mut self.devices,
             &mut self.tables[at],
-            &guard,
             now,
         );
         self.count = now;
@@ -212,15 +220,17 @@ impl Board for SimBoard {
         CoreView::of(&self.cores[usize::from(core)])
     }
 
-    fn port_len(&self, _port: u8) -> u32 {
-        0
+    fn port_input(&mut self, port: u8, byte: u8) {
+        self.devices.input(port, byte);
+        self.spent += 1;
     }
 
-    // No port puts anything out yet, so no caller of the trait gets here.
-    fn port_byte(&self, _port: u8, _i: u32) -> u8
-        ensures { result ≡ 0 }
-    {
-        0
+    fn port_len(&self, port: u8) -> u32 {
+        self.devices.out_len(port)
+    }
+
+    fn port_byte(&self, port: u8, i: u32) -> u8 {
+        self.devices.out_at(port, i)
     }
 
     fn entered(&self) -> u64 {

@@ -2,8 +2,8 @@
 
 ghost use Rattle.std.specs.Prelude.{◌≡◌, ℕ, ◌+◌, ◌≤◌, ◌<◌, ◌^◌, length, IsTrue};
 ghost use Rattle.bao_types.specs.Bytes.{IsWidth};
-ghost use Rattle.board.specs.Judge.{number_at as number_from, all_from};
-ghost use Rattle.board.specs.Attempt.{stores_from};
+ghost use Rattle.board.specs.Judge.{all_from};
+ghost use Rattle.board.specs.Ports.{number_at as number_from, stores_from};
 ghost use Rattle.board.specs.Machine.{over, with_byte, written};
 ghost use Rattle.phys_bank.specs.Banks.{byte_at, is_kept};
 ghost use Rattle.sim_board.specs.Memory.{IsSpanned};
@@ -30,7 +30,7 @@ pub(crate) fn number_at(memory: &Banks, at: u64, count: u32) -> u128
 
 /// The number that one element is.
 #[inline(always)]
-fn word_at(memory: &Banks, at: u64, width: u32) -> u64
+pub(crate) fn word_at(memory: &Banks, at: u64, width: u32) -> u64
     requires { IsWidth width }
     ensures value { result ≡ number_from (byte_at memory.now) at width }
     ensures bound { result < 256 ^ width }

@@ -1,40 +1,70 @@
-ghost use Rattle.std.specs.Prelude.{◌≡◌, ◌≤◌, if◌then◌else◌, IsTrue, Some};
+//! One step of a core.
+ghost use Rattle.std.specs.Prelude.{◌≡◌, ◌+◌, ◌≤◌, if◌then◌else◌, IsTrue, Some};
 ghost use Rattle.a64_decode.specs.Lawful.{IsLawful};
 ghost use Rattle.a64_execute.specs.Branch.{advanced};
 ghost use Rattle.a64_execute.specs.Want.{wanted, access_asked, bytes_of, IsAccess};
 ghost use Rattle.a64_execute.specs.Finish.{finished};
 ghost use Rattle.board.specs.Attempt.{attempt, checked, effect_of, load_effect, store_effect};
+ghost use Rattle.board.specs.Judge.{all_from};
+ghost use Rattle.board.specs.Machine.{port_places};
+ghost use Rattle.board.specs.Ports.{elements_value};
+ghost use Rattle.board.specs.declared.judged.Judged.TheVariants.{Port};
 ghost use Rattle.phys_bank.specs.Banks.{byte_at, is_kept};
-ghost use Rattle.sim_board.specs.Guard.{guarded, IsContained};
+ghost use Rattle.sim_board.specs.Devices.{is_backed};
+ghost use Rattle.sim_board.specs.Reached.{IsContained, reached};
 ghost use Rattle.sim_board.specs.Step.{carried_out, Ends};
 
-use crate::access::{fetch, load, store};
-use crate::fault::{is_stopped, raise, reach_port, refuse_data, refuse_fetch, stop};
-use crate::guard::Guard;
+use crate::access::{Way, byte_count, fetch, judge, read_elements, write_elements};
+use crate::devices::Devices;
+use crate::fault::{is_misaligned, is_stopped, misalign, raise, refuse_data, refuse_fetch, stop};
+use crate::memory::{number_at, store};
 use a64_address::MemShape;
 use a64_decode::{Instr, decode};
 use a64_execute::{Need, complete, complete_access, want};
 use a64_state::{Core, pstate};
-use board::{Exit, Judged};
+use bao_types::Access;
+use board::Exit;
 use exceptions::{Class, syndrome};
 use phys_bank::Banks;
 use pmsa_table::Table;
 
-/// Lets a core take a step, at the system count `now`: PC is looked at first, then the fetch is judged, and then PSTATE.IL
+/// An instruction that was fetched.
+#[derive(Clone, Copy)]
+struct Fetched {
+    instr: Instr,
+    /// The system count that the step is handed.
+    count: u64,
+}
+
+/// A load or a store that an instruction asks for.
+#[derive(Clone, Copy)]
+struct Request<'a> {
+    fetched: &'a Fetched,
+    shape: &'a MemShape,
+    /// What a store stores; 0 for a load.
+    value: u128,
+}
+
+/// Lets a core take a step, at the system count `count`: PC is looked at first, then the fetch is judged, and then PSTATE.IL
 /// is looked at, before the word.
 #[tactic(auto, unfolding(board::specs::Attempt::attempt))]
-pub(crate) fn step_core(
+pub(crate) fn step_core<D: Devices>(
     core: &mut Core,
     memory: &mut Banks,
+    devices: &mut D,
     table: &mut Table,
-    guard: &Guard<'_>,
-    now: u64,
+    count: u64,
 ) -> Exit
-    requires { IsContained (is_kept memory.old) table.old guard.now }
+    requires contained { IsContained (is_kept memory.old) table.old (D.spots devices.old) }
+    requires room { 2 ≤ D.room devices.old }
     ensures kept { is_kept memory.new ≡ is_kept memory.old }
     ensures entries { table.new ≡ table.old }
-    ensures end { record { core = core.new; bytes = byte_at memory.new; exit = result }
-        ≡ carried_out (attempt (guarded core.old table.old guard.now (byte_at memory.old)) core.old now) (byte_at memory.old) }
+    ensures spots { D.spots devices.new ≡ D.spots devices.old }
+    ensures room { D.room devices.old ≤ D.room devices.new + 2 }
+    ensures end { record { core = core.new; bytes = byte_at memory.new; ports = D.states devices.new; exit = result }
+        ≡ carried_out
+        (attempt (reached core.old table.old (D.spots devices.old) (D.states devices.old) (byte_at memory.old)) core.old count)
+        (byte_at memory.old) (D.states devices.old) }
 {
     let pc = core.pc;
     if pc % 4 != 0 {
@@ -45,34 +75,60 @@ pub(crate) fn step_core(
         Ok(_) if pstate::illegal_state(core.pstate) => {
             raise(core, syndrome(Class::IllegalState, 0), None, pc)
         }
-        Ok(word) => execute(core, memory, table, guard, now, &decode(word)),
+        Ok(word) => {
+            let instr = decode(word);
+            execute(core, memory, devices, table, &Fetched { instr, count })
+        }
     }
 }
 
 /// Executes an instruction that was fetched.
 #[inline(always)]
-fn execute(
+fn execute<D: Devices>(
     core: &mut Core,
     memory: &mut Banks,
+    devices: &mut D,
     table: &mut Table,
-    guard: &Guard<'_>,
-    now: u64,
-    instr: &Instr,
+    fetched: &Fetched,
 ) -> Exit
-    requires lawful { IsLawful instr.now }
-    requires contained { IsContained (is_kept memory.old) table.old guard.now }
+    requires lawful { IsLawful fetched.now.instr }
+    requires contained { IsContained (is_kept memory.old) table.old (D.spots devices.old) }
+    requires room { 2 ≤ D.room devices.old }
     ensures kept { is_kept memory.new ≡ is_kept memory.old }
     ensures entries { table.new ≡ table.old }
-    ensures end { record { core = core.new; bytes = byte_at memory.new; exit = result }
+    ensures spots { D.spots devices.new ≡ D.spots devices.old }
+    ensures room { D.room devices.old ≤ D.room devices.new + 2 }
+    ensures end { record { core = core.new; bytes = byte_at memory.new; ports = D.states devices.new; exit = result }
         ≡ carried_out
-        (effect_of (guarded core.old table.old guard.now (byte_at memory.old)) core.old now instr.now (wanted core.old instr.now))
-        (byte_at memory.old) }
+        (effect_of (reached core.old table.old (D.spots devices.old) (D.states devices.old) (byte_at memory.old)) core.old
+        fetched.now.count fetched.now.instr (wanted core.old fetched.now.instr))
+        (byte_at memory.old) (D.states devices.old) }
 {
-    match want(core, instr) {
-        Need::Done => finish(core, now, instr),
-        Need::Load { shape } => execute_load(core, memory, table, guard, now, instr, &shape),
+    match want(core, &fetched.instr) {
+        Need::Done => finish(core, fetched),
+        Need::Load { shape } => execute_load(
+            core,
+            memory,
+            devices,
+            table,
+            &Request {
+                fetched,
+                shape: &shape,
+                value: 0,
+            },
+        ),
         Need::Store { shape, value } => {
-            execute_store(core, memory, table, guard, now, instr, &shape, value)
+            execute_store(
+                core,
+                memory,
+                devices,
+                table,
+                &Request {
+                    fetched,
+                    shape: &shape,
+                    value,
+                },
+            )
         }
         Need::Raise { esr, back } => raise(core, esr, None, back),
         Need::Leave { esr, behind } => leave(core, esr, behind),
@@ -82,115 +138,191 @@ fn execute(
 
 /// Executes a load.
 #[inline(always)]
-fn execute_load(
+fn execute_load<D: Devices>(
     core: &mut Core,
     memory: &Banks,
+    devices: &mut D,
     table: &mut Table,
-    guard: &Guard<'_>,
-    now: u64,
-    instr: &Instr,
-    shape: &MemShape,
+    request: &Request<'_>,
 ) -> Exit
-    requires lawful { IsLawful instr.now }
-    requires access { IsAccess shape.now }
-    requires need { access_asked (wanted core.old instr.now) ≡ Some shape.now }
+    requires lawful { IsLawful request.now.fetched.now.instr }
+    requires access { IsAccess request.now.shape.now }
+    requires need { access_asked (wanted core.old request.now.fetched.now.instr) ≡ Some request.now.shape.now }
     ensures entries { table.new ≡ table.old }
-    ensures end { Ends
-        (checked core.old instr.now shape.now (load_effect core.old now instr.now shape.now
-        ((guarded core.old table.old guard.now (byte_at memory.now)).loaded shape.now.at (bytes_of shape.now))))
-        core.new result }
+    ensures spots { D.spots devices.new ≡ D.spots devices.old }
+    ensures room { D.room devices.old ≤ D.room devices.new + 2 }
+    ensures end { record { core = core.new; bytes = byte_at memory.now; ports = D.states devices.new; exit = result }
+        ≡ carried_out
+        (checked core.old request.now.fetched.now.instr request.now.shape.now
+        (load_effect (port_places (D.spots devices.old)) core.old request.now.fetched.now.count request.now.fetched.now.instr request.now.shape.now
+        ((reached core.old table.old (D.spots devices.old) (D.states devices.old) (byte_at memory.now)).loaded
+        request.now.shape.now.at request.now.shape.now.width request.now.shape.now.count)))
+        (byte_at memory.now) (D.states devices.old) }
 {
-    if is_stopped(core, shape) {
-        return stop(core, instr, shape);
+    if is_stopped(core, request.shape) {
+        return stop(core, &request.fetched.instr, request.shape);
     }
-    take_load(core, memory, table, guard, now, instr, shape)
+    take_load(core, memory, devices, table, request)
 }
 
 /// Takes a load whose SP and start were checked.
 #[inline(always)]
-fn take_load(
+fn take_load<D: Devices>(
     core: &mut Core,
     memory: &Banks,
+    devices: &mut D,
     table: &mut Table,
-    guard: &Guard<'_>,
-    now: u64,
-    instr: &Instr,
-    shape: &MemShape,
+    request: &Request<'_>,
 ) -> Exit
-    requires lawful { IsLawful instr.now }
-    requires access { IsAccess shape.now }
-    requires need { access_asked (wanted core.old instr.now) ≡ Some shape.now }
+    requires lawful { IsLawful request.now.fetched.now.instr }
+    requires access { IsAccess request.now.shape.now }
+    requires need { access_asked (wanted core.old request.now.fetched.now.instr) ≡ Some request.now.shape.now }
     ensures entries { table.new ≡ table.old }
-    ensures end { Ends
-        (load_effect core.old now instr.now shape.now
-        ((guarded core.old table.old guard.now (byte_at memory.now)).loaded shape.now.at (bytes_of shape.now))) core.new result }
+    ensures spots { D.spots devices.new ≡ D.spots devices.old }
+    ensures room { D.room devices.old ≤ D.room devices.new + 2 }
+    ensures end { record { core = core.new; bytes = byte_at memory.now; ports = D.states devices.new; exit = result }
+        ≡ carried_out
+        (load_effect (port_places (D.spots devices.old)) core.old request.now.fetched.now.count request.now.fetched.now.instr request.now.shape.now
+        ((reached core.old table.old (D.spots devices.old) (D.states devices.old) (byte_at memory.now)).loaded
+        request.now.shape.now.at request.now.shape.now.width request.now.shape.now.count))
+        (byte_at memory.now) (D.states devices.old) }
 {
-    match load(core, memory, table, guard, shape) {
-        Judged::Memory(got) => finish_access(core, now, instr, shape, got),
-        Judged::Port => reach_port(core, instr, shape),
-        Judged::Refused(fault) => refuse_data(core, instr, fault),
+    match judge(core, table, devices, Access::Read, request.shape) {
+        Way::Memory => {
+            let got = number_at(memory, request.shape.at, byte_count(request.shape));
+            finish_access(core, request, got)
+        }
+        Way::Port => load_port(core, memory, devices, request),
+        Way::Refused(fault) => refuse_data(core, &request.fetched.instr, fault),
     }
+}
+
+/// Takes a load of which a byte is a port's.
+#[inline(never)]
+fn load_port<D: Devices>(
+    core: &mut Core,
+    memory: &Banks,
+    devices: &mut D,
+    request: &Request<'_>,
+) -> Exit
+    requires lawful { IsLawful request.now.fetched.now.instr }
+    requires access { IsAccess request.now.shape.now }
+    requires need { access_asked (wanted core.old request.now.fetched.now.instr) ≡ Some request.now.shape.now }
+    ensures spots { D.spots devices.new ≡ D.spots devices.old }
+    ensures room { D.room devices.old ≤ D.room devices.new + 2 }
+    ensures end { record { core = core.new; bytes = byte_at memory.now; ports = D.states devices.new; exit = result }
+        ≡ carried_out
+        (load_effect (port_places (D.spots devices.old)) core.old request.now.fetched.now.count request.now.fetched.now.instr request.now.shape.now
+        (Port (elements_value (port_places (D.spots devices.old)) (D.states devices.old) (byte_at memory.now)
+        request.now.shape.now.at request.now.shape.now.width request.now.shape.now.count)))
+        (byte_at memory.now) (D.states devices.old) }
+{
+    if is_misaligned(request.shape) {
+        return misalign(core, &request.fetched.instr, request.shape);
+    }
+    let got = read_elements(memory, devices, request.shape);
+    finish_access(core, request, got)
 }
 
 /// Executes a store.
 #[inline(always)]
-fn execute_store(
+fn execute_store<D: Devices>(
     core: &mut Core,
     memory: &mut Banks,
+    devices: &mut D,
     table: &mut Table,
-    guard: &Guard<'_>,
-    now: u64,
-    instr: &Instr,
-    shape: &MemShape,
-    value: u128,
+    request: &Request<'_>,
 ) -> Exit
-    requires lawful { IsLawful instr.now }
-    requires access { IsAccess shape.now }
-    requires need { access_asked (wanted core.old instr.now) ≡ Some shape.now }
-    requires contained { IsContained (is_kept memory.old) table.old guard.now }
+    requires lawful { IsLawful request.now.fetched.now.instr }
+    requires access { IsAccess request.now.shape.now }
+    requires need { access_asked (wanted core.old request.now.fetched.now.instr) ≡ Some request.now.shape.now }
+    requires contained { IsContained (is_kept memory.old) table.old (D.spots devices.old) }
+    requires room { 2 ≤ D.room devices.old }
     ensures kept { is_kept memory.new ≡ is_kept memory.old }
     ensures entries { table.new ≡ table.old }
-    ensures end { record { core = core.new; bytes = byte_at memory.new; exit = result }
+    ensures spots { D.spots devices.new ≡ D.spots devices.old }
+    ensures room { D.room devices.old ≤ D.room devices.new + 2 }
+    ensures end { record { core = core.new; bytes = byte_at memory.new; ports = D.states devices.new; exit = result }
         ≡ carried_out
-        (checked core.old instr.now shape.now (store_effect core.old now instr.now shape.now value
-        ((guarded core.old table.old guard.now (byte_at memory.old)).storable shape.now.at (bytes_of shape.now))))
-        (byte_at memory.old) }
+        (checked core.old request.now.fetched.now.instr request.now.shape.now
+        (store_effect (port_places (D.spots devices.old)) core.old request.now.fetched.now.count request.now.fetched.now.instr request.now.shape.now request.now.value
+        ((reached core.old table.old (D.spots devices.old) (D.states devices.old) (byte_at memory.old)).storable
+        request.now.shape.now.at request.now.shape.now.width request.now.shape.now.count)))
+        (byte_at memory.old) (D.states devices.old) }
 {
-    if is_stopped(core, shape) {
-        return stop(core, instr, shape);
+    if is_stopped(core, request.shape) {
+        return stop(core, &request.fetched.instr, request.shape);
     }
-    take_store(core, memory, table, guard, now, instr, shape, value)
+    take_store(core, memory, devices, table, request)
 }
 
 /// Takes a store whose SP and start were checked.
 #[inline(always)]
-fn take_store(
+fn take_store<D: Devices>(
     core: &mut Core,
     memory: &mut Banks,
+    devices: &mut D,
     table: &mut Table,
-    guard: &Guard<'_>,
-    now: u64,
-    instr: &Instr,
-    shape: &MemShape,
-    value: u128,
+    request: &Request<'_>,
 ) -> Exit
-    requires lawful { IsLawful instr.now }
-    requires access { IsAccess shape.now }
-    requires need { access_asked (wanted core.old instr.now) ≡ Some shape.now }
-    requires contained { IsContained (is_kept memory.old) table.old guard.now }
+    requires lawful { IsLawful request.now.fetched.now.instr }
+    requires access { IsAccess request.now.shape.now }
+    requires need { access_asked (wanted core.old request.now.fetched.now.instr) ≡ Some request.now.shape.now }
+    requires contained { IsContained (is_kept memory.old) table.old (D.spots devices.old) }
+    requires room { 2 ≤ D.room devices.old }
     ensures kept { is_kept memory.new ≡ is_kept memory.old }
     ensures entries { table.new ≡ table.old }
-    ensures end { record { core = core.new; bytes = byte_at memory.new; exit = result }
+    ensures spots { D.spots devices.new ≡ D.spots devices.old }
+    ensures room { D.room devices.old ≤ D.room devices.new + 2 }
+    ensures end { record { core = core.new; bytes = byte_at memory.new; ports = D.states devices.new; exit = result }
         ≡ carried_out
-        (store_effect core.old now instr.now shape.now value
-        ((guarded core.old table.old guard.now (byte_at memory.old)).storable shape.now.at (bytes_of shape.now)))
-        (byte_at memory.old) }
+        (store_effect (port_places (D.spots devices.old)) core.old request.now.fetched.now.count request.now.fetched.now.instr request.now.shape.now request.now.value
+        ((reached core.old table.old (D.spots devices.old) (D.states devices.old) (byte_at memory.old)).storable
+        request.now.shape.now.at request.now.shape.now.width request.now.shape.now.count))
+        (byte_at memory.old) (D.states devices.old) }
 {
-    match store(core, memory, table, guard, shape, value) {
-        Judged::Memory(_) => finish_access(core, now, instr, shape, 0),
-        Judged::Port => reach_port(core, instr, shape),
-        Judged::Refused(fault) => refuse_data(core, instr, fault),
+    match judge(core, table, devices, Access::Write, request.shape) {
+        Way::Memory => {
+            store(
+                memory,
+                request.shape.at,
+                byte_count(request.shape),
+                request.value,
+            );
+            finish_access(core, request, 0)
+        }
+        Way::Port => store_port(core, memory, devices, request),
+        Way::Refused(fault) => refuse_data(core, &request.fetched.instr, fault),
     }
+}
+
+/// Takes a store of which a byte is a port's.
+#[inline(never)]
+fn store_port<D: Devices>(
+    core: &mut Core,
+    memory: &mut Banks,
+    devices: &mut D,
+    request: &Request<'_>,
+) -> Exit
+    requires lawful { IsLawful request.now.fetched.now.instr }
+    requires access { IsAccess request.now.shape.now }
+    requires need { access_asked (wanted core.old request.now.fetched.now.instr) ≡ Some request.now.shape.now }
+    requires backed { IsTrue (all_from (is_backed (D.spots devices.old) (is_kept memory.old)) request.now.shape.now.at (bytes_of request.now.shape.now)) }
+    requires room { 2 ≤ D.room devices.old }
+    ensures kept { is_kept memory.new ≡ is_kept memory.old }
+    ensures spots { D.spots devices.new ≡ D.spots devices.old }
+    ensures room { D.room devices.old ≤ D.room devices.new + 2 }
+    ensures end { record { core = core.new; bytes = byte_at memory.new; ports = D.states devices.new; exit = result }
+        ≡ carried_out
+        (store_effect (port_places (D.spots devices.old)) core.old request.now.fetched.now.count request.now.fetched.now.instr request.now.shape.now request.now.value
+        (Port 0))
+        (byte_at memory.old) (D.states devices.old) }
+{
+    if is_misaligned(request.shape) {
+        return misalign(core, &request.fetched.instr, request.shape);
+    }
+    write_elements(memory, devices, request.shape, request.value);
+    finish_access(core, request, 0)
 }
 
 /// Leaves an exception to EL2 that is no abort, with PC behind the instruction or at it.
@@ -205,13 +337,13 @@ fn leave(core: &mut Core, esr: u64, behind: bool) -> Exit
 }
 
 /// Completes an instruction that asked for nothing. None that is built ends an interrupt.
-fn finish(core: &mut Core, now: u64, instr: &Instr) -> Exit
-    requires lawful { IsLawful instr.now }
-    requires need { wanted core.old instr.now ≡ Need.Done }
-    ensures core { core.new ≡ finished core.old now instr.now 0 }
+fn finish(core: &mut Core, fetched: &Fetched) -> Exit
+    requires lawful { IsLawful fetched.now.instr }
+    requires need { wanted core.old fetched.now.instr ≡ Need.Done }
+    ensures core { core.new ≡ finished core.old fetched.now.count fetched.now.instr 0 }
     ensures exit { result ≡ Exit.Ran }
 {
-    match complete(core, now, instr) {
+    match complete(core, fetched.count, &fetched.instr) {
         None => Exit::Ran,
         Some(_) => unreachable!(),
     }
@@ -219,12 +351,18 @@ fn finish(core: &mut Core, now: u64, instr: &Instr) -> Exit
 
 /// Completes an instruction whose access was carried out.
 #[inline(always)]
-fn finish_access(core: &mut Core, now: u64, instr: &Instr, shape: &MemShape, got: u128) -> Exit
-    requires lawful { IsLawful instr.now }
-    requires need { access_asked (wanted core.old instr.now) ≡ Some shape.now }
-    ensures core { core.new ≡ finished core.old now instr.now got }
+fn finish_access(core: &mut Core, request: &Request<'_>, got: u128) -> Exit
+    requires lawful { IsLawful request.now.fetched.now.instr }
+    requires need { access_asked (wanted core.old request.now.fetched.now.instr) ≡ Some request.now.shape.now }
+    ensures core { core.new ≡ finished core.old request.now.fetched.now.count request.now.fetched.now.instr got }
     ensures exit { result ≡ Exit.Ran }
 {
-    complete_access(core, now, instr, shape, got);
+    complete_access(
+        core,
+        request.fetched.count,
+        &request.fetched.instr,
+        request.shape,
+        got,
+    );
     Exit::Ran
 }

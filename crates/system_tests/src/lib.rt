@@ -8,7 +8,7 @@ mod answers;
 #[cfg(test)]
 mod checks;
 #[cfg(test)]
-mod entries;
+mod devices;
 #[cfg(test)]
 mod examples;
 #[cfg(test)]

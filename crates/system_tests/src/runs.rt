@@ -1,10 +1,8 @@
 //! Runs of the whole program over the simulated board, each told as one text.
 
 use crate::samples::ONE_VM;
-use bao_run::run_bao;
-use board::Board;
+use bao_command::{Outcome, play};
 use outside::{MemShelf, MemSink};
-use sim_board::SimBoard;
 use std::alloc::Global;
 use std::process::Abort;
 use std::test::Fail;
@@ -116,10 +114,9 @@ pub(crate) fn told(
 ) -> Result<String, Fail> {
     let words = strings(alloc, words)?;
     let mut sink = MemSink::new(alloc, 1 << 20, failing_puts.to_vec(alloc)?)?;
-    let mut board = SimBoard::new(alloc);
-    let status = run_bao(alloc, &words, shelf, &mut sink, &mut board);
+    let Outcome { status, entered } = play(alloc, &words, shelf, &mut sink)?;
     let number = status.number();
-    let (entered, calls, faults) = (board.entered(), shelf.calls(), shelf.faults());
+    let (calls, faults) = (shelf.calls(), shelf.faults());
     let text = std::str::from_utf8(sink.taken())?;
     Ok(format!(in alloc;
         "status {number} entered {entered} calls {calls} faults {faults}\n{text}"

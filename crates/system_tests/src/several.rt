@@ -26,7 +26,7 @@ fn separate(alloc: Global, changes: &[Change]) -> Result<String, Fail> {
 }
 
 /// What a run of both VMs leaves, with these images over the sample.
-fn told_of_two(
+pub(crate) fn told_of_two(
     alloc: Global,
     changes: &[Change],
     words: [&[u32]; 2],
@@ -114,7 +114,7 @@ done
 "),
     ("a count that falls from core to core", &[], "s 0 5\ns 1 4\n", "status 8 entered 0 calls 4 faults 0\nbad schedule line 2 rule 4\n"),
     ("a core past the last", &[], "s 1 0\ns 2 0\n", "status 8 entered 0 calls 4 faults 0\nbad schedule line 2 rule 2\n"),
-    ("an input to the second VM", &[], "s 1 0\ni 1 65\n", "status 12 entered 1 calls 4 faults 0\nnot built event 1\n"),
+    ("an input to a port of no dev", &[("devs = [{ port = 1, irq = 40 }]\n", "")], "s 1 0\ni 1 65\n", "status 8 entered 0 calls 4 faults 0\nbad schedule line 2 rule 3\n"),
     ("too many runs", &[("cores = [16, 16]", "cores = [16, 2]")], "",
         "status 7 entered 0 calls 1 faults 0\ntoo many runs core 1 runs 3 entries 2\n"),
     ("a rule before too many runs", &[("cores = [16, 16]", "cores = [16, 2]"), ("name = \"b\"", "name = \"a\"")], "",

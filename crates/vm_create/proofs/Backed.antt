@@ -1,10 +1,12 @@
 -- A byte that a map gives is memory in use, or a port's.
-use Rattle.std.proofs.Common.{◌≡◌, ℕ, zero, suc, ◌==◌, Bool, true, false, cond, ◌||◌, List, [], ◌∷◌, ◌++◌, map, filter_map, reverse, find, slice_get, All, Some, IfSome, refl, ap, ◌∙◌}
-use Rattle.std.specs.Prelude.{IsTrue, ⊤}
+use Rattle.std.proofs.Common.{◌≡◌, ℕ, zero, suc, ◌-◌, ◌==◌, Bool, true, false, cond, ◌||◌, List, [], ◌∷◌, ◌++◌, map, filter_map, reverse, find, slice_get, All, Some, IfSome, refl, ap, ◌∙◌}
+use Rattle.std.specs.Prelude.{IsTrue, ⊤, is_some, if◌then◌else◌}
+use Rattle.std.specs.Option.{option_map}
 use Rattle.std.specs.List.{flat_map, list_any}
 use Rattle.std.proofs.lemmas.List.Elements.{All-append, All-head, All-tail, All-map}
 use Rattle.std.proofs.lemmas.List.Folds.{list_any-append, list_any_at}
 use Rattle.bao_types.specs.declared.range.ByteRange.{ByteRange}
+use Rattle.bao_types.specs.declared.shape.PortSpot.{PortSpot}
 use Rattle.bao_types.specs.ByteRange.{is_in_one, is_within}
 use Rattle.bao_types.specs.Shape.{port_range}
 use Rattle.bao_config.specs.declared.config.Dev.{Dev}
@@ -16,13 +18,14 @@ use Rattle.bao_wellformed.specs.Map.{dev_entry, guard_entry, ipc_entry, kind_at,
 use Rattle.bao_wellformed.specs.Laws.{IsVm}
 use Rattle.bao_wellformed.proofs.Bytes.{all_reversed}
 use Rattle.bao_wellformed.proofs.Fits.{found_fits, got_fits, made_fits, picked_fit}
-use Rattle.board.specs.Machine.{is_port, is_used}
+use Rattle.board.specs.Ports.{PortByte, is_port}
+use Rattle.board.specs.Machine.{is_used, port_places}
 use Rattle.hypervisor.specs.Shape.{port_spot, shape_of}
 
 -- what a byte of this kind is on the board
 abbrev pub IsBackedAs : ConfigData → ℕ → ℕ → Kind → Type 0
 IsBackedAs cfg events at (Ram write exec) = IsTrue (is_used (shape_of cfg events) at)
-IsBackedAs cfg events at (Port id) = IsTrue (is_port (shape_of cfg events) at)
+IsBackedAs cfg events at (Port id) = IsTrue (is_port (port_places (shape_of cfg events).ports) at)
 IsBackedAs cfg events at (Window shmem write) = IsTrue (is_used (shape_of cfg events) at)
 IsBackedAs cfg events at Hole = ⊤
 
@@ -46,6 +49,18 @@ any_flat p f [] v x got e = cc
 any_flat p f (y ∷ ys) zero x got e =
     let same : y ≡ x = cc in any_left p (f y) (flat_map f ys) (ap (λ z. list_any p (f z)) same ∙ e)
 any_flat p f (y ∷ ys) (suc v) x got e = any_right p (f y) (flat_map f ys) (any_flat p f ys v x got e)
+
+-- a port that has a byte is found where one has it
+found_if_any : (ports : List PortSpot) (at : ℕ) → is_port (port_places ports) at ≡ is_in_one (λ port. port_range port.base) ports at
+found_if_any [] at = refl
+found_if_any (port ∷ ports) at = by_test (is_within (port_range port.base) at) (found_if_any ports at)
+  where
+    by_test : (here : Bool) → is_port (port_places ports) at ≡ is_in_one (λ port. port_range port.base) ports at
+        → is_some (option_map {U = PortByte} (λ (found : PortSpot). record { port = found.id; offset = at - found.base })
+        (if here then Some port else find (λ other. is_within (port_range other.base) at) ports))
+        ≡ (here || is_in_one (λ port. port_range port.base) ports at)
+    by_test true rest = refl
+    by_test false rest = rest
 
 -- a byte of one of these is a byte of them
 among : {A : Type 0} (range_of : A → ByteRange) (xs : List A) (at : ℕ)
@@ -71,9 +86,11 @@ module _ (cfg : ConfigData) (events at : ℕ) where
       any_right (λ range. is_within range at) (flat_map ranges_of cfg.vms) (map (λ shmem. shmem.range) cfg.shmems)
       (any_mapped (λ range. is_within range at) (λ shmem. shmem.range) cfg.shmems ∙ inside)
 
-  port_of_platform : is_in_one (λ port. port_range port.base) cfg.platform.ports at ≡ true → is_port (shape_of cfg events) at ≡ true
+  port_of_platform : is_in_one (λ port. port_range port.base) cfg.platform.ports at ≡ true
+      → is_port (port_places (shape_of cfg events).ports) at ≡ true
   port_of_platform inside =
-      any_mapped (λ port. is_within (port_range port.base) at) (port_spot cfg) cfg.platform.ports ∙ inside
+      found_if_any (map (port_spot cfg) cfg.platform.ports) at
+      ∙ any_mapped (λ port. is_within (port_range port.base) at) (port_spot cfg) cfg.platform.ports ∙ inside
 
   dev_backs : (dev : Dev) → IfSome (dev_entry cfg dev) Backs
   dev_backs dev =

@@ -1,5 +1,5 @@
 -- The shape that a well-formed configuration asks for is one that a board can be fitted with.
-use Rattle.std.proofs.Common.{◌≡◌, ℕ, suc, ◌+◌, ◌≤◌, Bool, true, false, not, List, [], ◌∷◌, ◌++◌, map, filter, length, get_or, slice_get, All, Some, nat_lt, cond, sum, sum_by, refl, ap, ◌∙◌, arith}
+use Rattle.std.proofs.Common.{◌≡◌, ℕ, suc, ◌+◌, ◌%◌, ◌<◌, ◌≤◌, Bool, true, false, not, List, [], ◌∷◌, ◌++◌, map, filter, length, get_or, slice_get, All, Some, nat_lt, cond, sum, sum_by, refl, ap, ◌∙◌, arith}
 use Rattle.std.specs.Prelude.{IsTrue, IsFalse}
 use Rattle.std.specs.List.{AllPairs, enumerate_from, flat_map}
 use Rattle.std.proofs.lemmas.Bool.{not-false, ltb-false}
@@ -10,19 +10,20 @@ use Rattle.std.proofs.lemmas.List.Elements.{All-append, All-cons, All-head, All-
 use Rattle.std.proofs.lemmas.Option.{slice_get-get_or, slice_get_within}
 use Rattle.bao_types.specs.declared.range.ByteRange.{ByteRange}
 use Rattle.bao_types.specs.ByteRange.{address_space_end, end, lies_in, overlaps}
-use Rattle.bao_types.specs.Shape.{event_limit, port_range}
+use Rattle.bao_types.specs.Shape.{event_limit, port_range, port_size}
 use Rattle.bao_config.specs.declared.config.PortPlace.{PortPlace}
 use Rattle.bao_config.specs.Bounds.{IsInBounds, entries}
 use Rattle.bao_config.specs.Data.{ConfigData, VmData}
-use Rattle.bao_config.specs.Fits.{ConfigFits}
+use Rattle.bao_config.specs.Fits.{ConfigFits, PortFits}
 use Rattle.bao_wellformed.specs.Break.{indexed}
 use Rattle.bao_wellformed.specs.Laws.{IsVm}
 use Rattle.bao_wellformed.specs.Rules.{all_ranges, are_too_near, distributor, frame, lies_in_a_bank, memory_limit, passing_bank, pieces, plain, redistributors, regions_outside, vm_ranges}
 use Rattle.bao_wellformed.specs.WellFormed.{IsWellFormed}
 use Rattle.bao_wellformed.proofs.Empty.{all_fail, any_got, indexed_got, left_got, map_empty, map_got, none_in_each, none_passes, none_passes_in}
 use Rattle.bao_wellformed.proofs.Kept.{IsKept, kept}
+use Rattle.board.specs.Ports.{port_count}
 use Rattle.board.specs.Machine.{IsFittable}
-use Rattle.vm_create.proofs.Pairs.{pair_fails}
+use Rattle.vm_model.proofs.Banks.{IsInABank, bank_at, off_ports, pair_fails, regions_in_banks, shmems_in_banks}
 use Rattle.hypervisor.specs.Shape.{core_place, port_spot, shape_of, used_ranges}
 
 -- what holds of each element of joined lists, of numbered elements, and of the ranges in use
@@ -51,41 +52,15 @@ sizes_below total (bank ∷ banks) e low = by_test (nat_lt memory_limit (total +
     by_test false t e rest =
         omega (arith, rest e (ltb-false memory_limit (total + bank.size) t), sum_by-cons (λ (bank : ByteRange). bank.size) bank banks)
 
--- what overlaps nothing of a range overlaps nothing in it
-inside_apart : (inner outer other : ByteRange) → lies_in inner outer ≡ true → overlaps outer other ≡ false → overlaps inner other ≡ false
-inside_apart inner outer other lies apart = grind (arith, nat_tests)
-
-behind : {A : Type 0} (front rest : List A) (k : ℕ) (x : A) → slice_get rest k ≡ Some x → slice_get (front ++ rest) (length front + k) ≡ Some x
-behind [] rest k x got = let e : 0 + k ≡ k = omega arith in ap (slice_get rest) e ∙ got
-behind (one ∷ front) rest k x got =
-    let e : suc (length front) + k ≡ suc (length front + k) = omega arith in ap (slice_get (one ∷ front ++ rest)) e ∙ behind front rest k x got
-
 abbrev is_outside : ByteRange → Bool
 is_outside range = nat_lt address_space_end (end range)
 
 module _ (cfg : ConfigData) (keeps : IsKept cfg) where
-  bank_at : (k : ℕ) (bank : ByteRange) → slice_get cfg.platform.banks k ≡ Some bank → slice_get (pieces cfg) k ≡ Some (plain bank)
-  bank_at k bank got =
-      left_got (map plain cfg.platform.banks)
-      (frame (distributor cfg) ∷ frame (redistributors cfg) ∷ map (λ port. plain (port_range port.base)) cfg.platform.ports) k (plain bank)
-      (map_got plain cfg.platform.banks k bank got)
-
-  -- the ports stand behind the banks and the two frames
-  port_at : (k : ℕ) (port : PortPlace) → slice_get cfg.platform.ports k ≡ Some port
-      → slice_get (pieces cfg) (length cfg.platform.banks + suc (suc k)) ≡ Some (plain (port_range port.base))
-  port_at k port got =
-      let count = length-map cfg.platform.banks plain in
-      let place : length cfg.platform.banks + suc (suc k) ≡ length (map plain cfg.platform.banks) + suc (suc k) = omega (arith, count) in
-      ap (slice_get (pieces cfg)) place
-      ∙ behind (map plain cfg.platform.banks)
-      (frame (distributor cfg) ∷ frame (redistributors cfg) ∷ map (λ port. plain (port_range port.base)) cfg.platform.ports) (suc (suc k))
-      (plain (port_range port.base)) (map_got (λ port. plain (port_range port.base)) cfg.platform.ports k port got)
-
   banks_apart : AllPairs (λ one other. IsFalse (overlaps one other)) cfg.platform.banks
   banks_apart i j d less low =
       let all = cfg.platform.banks in
-      pair_fails are_too_near (pieces cfg) (map_empty _ _ keeps.r3) i j (plain (get_or all i d)) (plain (get_or all j d)) (bank_at i (get_or all i d) (slice_get-get_or all i d (omega (arith, less, low))))
-      (bank_at j (get_or all j d) (slice_get-get_or all j d low)) less
+      pair_fails are_too_near (pieces cfg) (map_empty _ _ keeps.r3) i j (plain (get_or all i d)) (plain (get_or all j d)) (bank_at cfg keeps i (get_or all i d) (slice_get-get_or all i d (omega (arith, less, low))))
+      (bank_at cfg keeps j (get_or all j d) (slice_get-get_or all j d low)) less
 
   abbrev frames_and_ports : List ByteRange
   frames_and_ports = distributor cfg ∷ redistributors cfg ∷ map (λ port. port_range port.base) cfg.platform.ports
@@ -107,39 +82,12 @@ module _ (cfg : ConfigData) (keeps : IsKept cfg) where
       let few = sizes_below 0 cfg.platform.banks (map_empty _ _ keeps.r2) (omega arith) in
       omega (arith, few, sum-map (λ (bank : ByteRange). bank.size) cfg.platform.banks)
 
-  abbrev IsInABank : ByteRange → Type 0
-  IsInABank range = IsTrue (lies_in_a_bank cfg range)
-
-  regions_in_banks : (v : ℕ) (vm : VmData) → IsVm cfg v vm → All (λ region. IsInABank region.range) vm.regions
-  regions_in_banks v vm is k d low =
-      let nothing = none_in_each (λ (v, vm). regions_outside cfg v vm) (indexed cfg.vms) keeps.r12 v (v, vm) (indexed_got v cfg.vms vm is) in
-      let region = get_or vm.regions k d in
-      not-false (lies_in_a_bank cfg region.range)
-      (none_passes (λ (j, region). not (lies_in_a_bank cfg region.range)) (indexed vm.regions) (map_empty _ _ nothing) k (k, region)
-      (indexed_got k vm.regions region (slice_get-get_or vm.regions k d low)))
-
-  shmems_in_banks : All (λ shmem. IsInABank shmem.range) cfg.shmems
-  shmems_in_banks =
-      All-weaker (λ shmem. not (lies_in_a_bank cfg shmem.range) ≡ false) (λ shmem. IsInABank shmem.range)
-      (λ shmem e. not-false (lies_in_a_bank cfg shmem.range) e) cfg.shmems
-      (all_fail (λ shmem. not (lies_in_a_bank cfg shmem.range)) cfg.shmems (map_empty _ _ keeps.r6))
-
-  used_in_banks : All IsInABank (used_ranges cfg)
+  used_in_banks : All (IsInABank cfg keeps) (used_ranges cfg)
   used_in_banks =
-      All-append IsInABank (flat_map (λ vm. map (λ region. region.range) vm.regions) cfg.vms) (map (λ shmem. shmem.range) cfg.shmems)
-      (all_joined IsInABank (λ (vm : VmData). map (λ region. region.range) vm.regions) cfg.vms
-      (λ v vm is. All-map IsInABank (λ region. region.range) vm.regions (regions_in_banks v vm is)))
-      (All-map IsInABank (λ shmem. shmem.range) cfg.shmems shmems_in_banks)
-
-  off_ports : (range : ByteRange) → IsInABank range → All (λ port. IsFalse (overlaps range (port_range port.base))) cfg.platform.ports
-  off_ports range lies i d low =
-      let port = get_or cfg.platform.ports i d in
-      let in_bank = any_got (λ bank. lies_in range bank) cfg.platform.banks lies in
-      let within = slice_get_within cfg.platform.banks in_bank.0 in_bank.1 in_bank.2 in
-      inside_apart range in_bank.1 (port_range port.base) in_bank.3
-      (pair_fails are_too_near (pieces cfg) (map_empty _ _ keeps.r3) in_bank.0 (length cfg.platform.banks + suc (suc i)) (plain in_bank.1)
-      (plain (port_range port.base)) (bank_at in_bank.0 in_bank.1 in_bank.2) (port_at i port (slice_get-get_or cfg.platform.ports i d low))
-      (omega (arith, within)))
+      All-append (IsInABank cfg keeps) (flat_map (λ vm. map (λ region. region.range) vm.regions) cfg.vms) (map (λ shmem. shmem.range) cfg.shmems)
+      (all_joined (IsInABank cfg keeps) (λ (vm : VmData). map (λ region. region.range) vm.regions) cfg.vms
+      (λ v vm is. All-map (IsInABank cfg keeps) (λ region. region.range) vm.regions (regions_in_banks cfg keeps v vm is)))
+      (All-map (IsInABank cfg keeps) (λ shmem. shmem.range) cfg.shmems (shmems_in_banks cfg keeps))
 
 pub shape_fits : (cfg : ConfigData) (events : ℕ) → IsWellFormed cfg → ConfigFits cfg → events ≤ event_limit → IsFittable (shape_of cfg events)
 shape_fits cfg events well_formed fits few =
@@ -149,6 +97,10 @@ shape_fits cfg events well_formed fits few =
       banks_apart = banks_apart cfg keeps;
       bank_ends = bank_ends cfg keeps;
       bank_sizes = bank_sizes cfg keeps;
+      port_numbers = All-map (λ port. port.id < port_count) (port_spot cfg) cfg.platform.ports
+          (All-weaker PortFits (λ port. port.id < port_count) (λ port fit. omega (arith, fit.id.most)) cfg.platform.ports fits.platform.ports.each);
+      port_bases = All-map (λ port. port.base % port_size ≡ 0) (port_spot cfg) cfg.platform.ports
+          (All-weaker PortFits (λ port. port.base % port_size ≡ 0) (λ port fit. fit.base.multiple) cfg.platform.ports fits.platform.ports.each);
       used = used_in_banks cfg keeps;
       ports_apart = All-weaker (IsInABank cfg keeps) (λ range. All (λ port. IsFalse (overlaps range (port_range port.base))) (map (port_spot cfg) cfg.platform.ports))
           (λ range lies. All-map (λ port. IsFalse (overlaps range (port_range port.base))) (port_spot cfg) cfg.platform.ports (off_ports cfg keeps range lies))

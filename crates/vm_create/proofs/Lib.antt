@@ -1,4 +1,3 @@
-pub mod Pairs
 pub mod Fittable
 pub mod Masks
 pub mod Mixed

@@ -16,7 +16,7 @@ use Rattle.bao_wellformed.specs.Laws.{IsVm}
 use Rattle.bao_wellformed.specs.Rules.{are_one, rule_11}
 use Rattle.bao_wellformed.proofs.Empty.{map_empty}
 use Rattle.bao_wellformed.proofs.Once.{claim, claim_got}
-use Rattle.vm_create.proofs.Pairs.{pair_fails}
+use Rattle.vm_model.proofs.Banks.{pair_fails}
 
 abbrev pub Differ : List ℕ → Type 0
 Differ numbers = AllPairs (λ one other. one ≢ other) numbers

@@ -25,7 +25,8 @@ use Rattle.bao_wellformed.proofs.Places.{hypervisor_in_space, maps_in_space}
 use Rattle.region_list.specs.declared.run.Run.{Run}
 use Rattle.region_list.specs.Layers.{AreInSpace, IsInSpace}
 use Rattle.region_list.specs.Runs.{AreRunsFrom, IsMaximalRun}
-use Rattle.board.specs.Machine.{IsSafeEntry, is_port, is_used}
+use Rattle.board.specs.Ports.{is_port}
+use Rattle.board.specs.Machine.{IsSafeEntry, is_used, port_places}
 use Rattle.mpu_packer.specs.declared.entries.Plan.{Plan}
 use Rattle.mpu_packer.specs.Packing.{HasBits, IsRealised, Realises, entry_of}
 use Rattle.mpu_packer.specs.Plan.{IsPacking}
@@ -111,7 +112,7 @@ module _ (cfg : ConfigData) (core : ℕ) (well_formed : IsWellFormed cfg) where
 module _ (cfg : ConfigData) (core events : ℕ) where
   abbrev IsOpen : Region → ℕ → Type 0
   IsOpen entry at =
-      IsTrue (is_used (shape_of cfg events) at) ⊎ (IsTrue (is_port (shape_of cfg events) at) × IsTrue (is_execute_never entry))
+      IsTrue (is_used (shape_of cfg events) at) ⊎ (IsTrue (is_port (port_places (shape_of cfg events).ports) at) × IsTrue (is_execute_never entry))
 
   module _ (entry : Region) (at : ℕ) (write exec port : Bool) (bits : HasBits entry (Guest write exec port)) where
     by_kind : (kind : Kind) → IsBackedAs cfg events at kind → grant kind ≡ Guest write exec port → IsOpen entry at

@@ -19,14 +19,14 @@ use mpu_packer::Plan;
 
 /// Boots all VMs on a board that was just fitted with their configuration's shape: each image is loaded at its VM's place,
 /// each core has its packing, and the first core of each VM is about to run at the VM's start. It answers the hypervisor
-/// for them. What the ports had put out stays.
+/// for them. The ports stay as they are.
 pub fn boot<B: Board>(board: &mut B, checked: &Checked, plans: &[Plan], images: &[Vec<u8>]) -> Hyp
     requires fresh { IsFresh (checked_data checked.now) (B.state board.old) }
     requires plans { ArePlans (checked_data checked.now) plans.now }
     requires images { FitRooms (checked_data checked.now) (map (λ image. image.items) images.now) }
     ensures tidy { Tidy (checked_data checked.now) result (B.state board.new) }
     ensures state { let model = boot (checked_data checked.now) (map (λ image. image.items) images.now) in
-        project result.powers (B.state board.new) ≡ record model { console = (B.state board.old).console } }
+        project result.powers (B.state board.new) ≡ record model { ports = (B.state board.old).ports } }
     ensures entered { (B.state board.new).entered ≡ 0 }
     ensures board { B.state board.new
         ≡ booted (checked_data checked.now) (packings_of plans.now) (map (λ image. image.items) images.now) (B.state board.old) }

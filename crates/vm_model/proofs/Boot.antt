@@ -77,5 +77,5 @@ module _ (cfg : ConfigData) (images : List (List ℕ)) (v : ℕ) (vm : VmData) (
         (from_zero (λ c. boot_power (owner cfg c) c) (λ c. boot_power (owner (single cfg vm) c) c) core
         (ap (λ o. boot_power o core) (owners core has)));
     core_count = length-map _ _ ∙ sym (length-map _ _);
-    consoles = λ port has. refl;
+    ports = λ port has. refl;
   }

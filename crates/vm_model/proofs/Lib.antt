@@ -1,5 +1,6 @@
 pub mod Lists
 pub mod Stores
+pub mod Ports
 pub mod Own
 pub mod Strangers
 pub mod Boot
@@ -7,4 +8,5 @@ pub mod Run
 pub mod View
 pub mod Apart
 pub mod Granular
+pub mod Banks
 pub mod WellFormed

@@ -51,10 +51,10 @@ first_by_place p xs v x got h =
     (r.first ∙ ap Some element, ap p (sym element) ∙ r.passes)
 
 -- the first one that passes stands at a place
-pub found_got : (p : VmData → Bool) (xs : List VmData) (x : VmData) → find p xs ≡ Some x
+pub found_got : {A : Type 0} (p : A → Bool) (xs : List A) (x : A) → find p xs ≡ Some x
     → (place : ℕ) × (slice_get xs place ≡ Some x) × IsTrue (p x)
 found_got p [] x e = cc
-found_got p (y ∷ ys) x e = by_test (p y) refl e (found_got p ys x)
+found_got {A} p (y ∷ ys) x e = by_test (p y) refl e (found_got p ys x)
   where
     by_test : (b : Bool) → p y ≡ b → (if b then Some y else find p ys) ≡ Some x
         → (find p ys ≡ Some x → (place : ℕ) × (slice_get ys place ≡ Some x) × IsTrue (p x))

@@ -9,21 +9,24 @@ use Rattle.bao_config.specs.Data.{ConfigData, VmData}
 use Rattle.bao_types.specs.ByteRange.{is_within}
 use Rattle.bao_wellformed.specs.declared.map.Kind.{Kind}
 use Rattle.bao_wellformed.specs.declared.map.Kind.TheVariants.{Ram, Port, Window, Hole}
-use Rattle.bao_wellformed.specs.Map.{is_platform_port, kind_at, grant, guest_class, has_core, owner}
+use Rattle.bao_wellformed.specs.Map.{kind_at, grant, guest_class, has_core, has_port, owner}
 use Rattle.bao_wellformed.specs.Map.{verdict_of, by_map}
 use Rattle.board.specs.Stage.{Stage, both, by_regions, is_allowed}
-use Rattle.board.specs.Judge.{reaches, reach_of}
+use Rattle.board.specs.Ports.{all_accessed}
+use Rattle.board.specs.Judge.{reach_of}
 use Rattle.board.specs.Attempt.{Outcome, Ran, Leave, Unbuilt, attempt}
 use Rattle.board.specs.Machine.{core_at, written}
-use Rattle.vm_model.specs.Flat.{Flat, Step, is_on, runs, flat_reach, flat_attempt, powers_after, flat_stepped, flat_step}
+use Rattle.vm_model.specs.Flat.{Flat, Step, is_on, runs, platform_places, flat_attempt, powers_after, flat_stepped, flat_step}
 use Rattle.vm_model.specs.Park.{is_abort, is_of_class, is_described, width_of, is_in_frame, parks}
 use Rattle.vm_model.specs.Lone.{is_core_of}
-use Rattle.board.proofs.Reached.{observes_nothing_else, reached_by_second}
+use Rattle.board.specs.Reached.{ReachesPort}
+use Rattle.board.proofs.Reached.{allowed_by_second, observes_nothing_else, port_by_second}
 use Rattle.vm_model.specs.Agree.{is_present, IsInMap, Agree}
 use Rattle.exceptions.specs.declared.class.Class.TheVariants.{DataAbortLower}
 use Rattle.hypercalls.specs.declared.power.Power.{Power}
 use Rattle.hypercalls.specs.declared.power.Power.TheVariants.{Parked}
 use Rattle.vm_model.proofs.Lists.{first_by_place, set_alike, set_get_alike}
+use Rattle.vm_model.proofs.Ports.{accesses_alike}
 use Rattle.vm_model.proofs.Stores.{written_alike}
 
 -- the configuration with one VM
@@ -58,25 +61,19 @@ module _ (cfg : ConfigData) (v : ℕ) (vm : VmData) (place : slice_get cfg.vms v
       ap (λ o. λ access at. verdict_of (if is_within cfg.hyp at then Hyp else guest_class cfg o at) access)
       (owned.0 ∙ sym owned_alone)
 
-  allowed_in_map : (access : Access) (at : ℕ) → IsTrue (is_allowed (by_map cfg core access at)) → IsInMap cfg vm at
+  pub allowed_in_map : (access : Access) (at : ℕ) → IsTrue (is_allowed (by_map cfg core access at)) → IsInMap cfg vm at
   unfolding by_map
   allowed_in_map access at h =
       present_of (is_within cfg.hyp at) (kind_at cfg vm at) access
       (subst
       (λ o. IsTrue (is_allowed (verdict_of (if is_within cfg.hyp at then Hyp else guest_class cfg o at) access))) owned.0 h)
 
-  reached_in_map : (access : Access) (at : ℕ) → IsTrue (reaches (by_map cfg core) (is_platform_port cfg) access at) → IsInMap cfg vm at
-  reached_in_map Read at h = allowed_in_map Read at (first_of _ _ h)
-  reached_in_map Write at h = allowed_in_map Write at (first_of _ _ h)
-  reached_in_map Exec at h = allowed_in_map Exec at h
-
   -- what both stages let the core read or execute
   seen_in_map : (one : Stage) (at : ℕ)
-      → IsTrue (reaches (both one (by_map cfg core)) (is_platform_port cfg) Read at)
-      ⊎ IsTrue (reaches (both one (by_map cfg core)) (is_platform_port cfg) Exec at)
+      → IsTrue (is_allowed (both one (by_map cfg core) Read at)) ⊎ IsTrue (is_allowed (both one (by_map cfg core) Exec at))
       → IsInMap cfg vm at
-  seen_in_map one at (inl h) = reached_in_map Read at (reached_by_second one (by_map cfg core) (is_platform_port cfg) Read at h)
-  seen_in_map one at (inr h) = reached_in_map Exec at (reached_by_second one (by_map cfg core) (is_platform_port cfg) Exec at h)
+  seen_in_map one at (inl h) = allowed_in_map Read at (allowed_by_second one (by_map cfg core) Read at h)
+  seen_in_map one at (inr h) = allowed_in_map Exec at (allowed_by_second one (by_map cfg core) Exec at h)
 
   -- an exception parks the core in both
   parks_alike : (esr far : ℕ) → parks cfg core esr far ≡ parks (single cfg vm) core esr far
@@ -100,7 +97,8 @@ module _ (cfg : ConfigData) (v : ℕ) (vm : VmData) (place : slice_get cfg.vms v
       by_park false = there
   powers_alike Unbuilt ps qs c here there = there
 
-  module _ (f g : Flat) (agree : Agree cfg vm f g) (now : ℕ) where
+  module _ (own_ports : (port : ℕ) → ReachesPort (by_map cfg core) (platform_places cfg) port → IsTrue (has_port port vm))
+      (f g : Flat) (agree : Agree cfg vm f g) (now : ℕ) where
     runs_alike : runs cfg f core ≡ runs (single cfg vm) g core
     runs_alike =
         ap (λ o. is_some o && is_on (slice_get f.powers core)) (owned.0 ∙ sym owned_alone)
@@ -108,12 +106,12 @@ module _ (cfg : ConfigData) (v : ℕ) (vm : VmData) (place : slice_get cfg.vms v
 
     attempt_alike : flat_attempt cfg f core now ≡ flat_attempt (single cfg vm) g core now
     attempt_alike =
-        ap (λ c. attempt (reach_of (by_regions c) (by_map cfg core) (is_platform_port cfg) f.bytes) c now) (agree.cores core owned.1)
-        ∙ observes_nothing_else (by_regions (core_at g.cores core)) (by_map cfg core) (is_platform_port cfg) f.bytes g.bytes
-        (core_at g.cores core) now (λ at h. agree.bytes at (seen_in_map (by_regions (core_at g.cores core)) at h))
-        ∙ ap (λ two.
-        attempt (reach_of (by_regions (core_at g.cores core)) two (is_platform_port cfg) g.bytes) (core_at g.cores core) now)
-        map_alike
+        let one = by_regions (core_at g.cores core) in let places = platform_places cfg in
+        ap (λ c. attempt (reach_of (by_regions c) (by_map cfg core) places f.ports f.bytes) c now) (agree.cores core owned.1)
+        ∙ observes_nothing_else one (by_map cfg core) places f.ports g.ports f.bytes g.bytes (core_at g.cores core) now
+        (λ port reached. agree.ports port (own_ports port (port_by_second one (by_map cfg core) places port reached)))
+        (λ at h. agree.bytes at (seen_in_map one at h))
+        ∙ ap (λ two. attempt (reach_of one two places g.ports g.bytes) (core_at g.cores core) now) map_alike
 
     stepped_alike : Agree cfg vm (flat_stepped cfg f core now) (flat_stepped (single cfg vm) g core now)
     stepped_alike =
@@ -133,7 +131,9 @@ module _ (cfg : ConfigData) (v : ℕ) (vm : VmData) (place : slice_get cfg.vms v
           core_count =
               length-set f.cores core (flat_attempt cfg f core now).core ∙ agree.core_count
               ∙ sym (length-set g.cores core (flat_attempt (single cfg vm) g core now).core);
-          consoles = agree.consoles;
+          ports = λ port has.
+              accesses_alike (flat_attempt cfg f core now).touched f.ports g.ports port (agree.ports port has)
+              ∙ ap (λ e. all_accessed e.touched g.ports port) a;
         }
 
     by_runs : (r s : Bool) → r ≡ s

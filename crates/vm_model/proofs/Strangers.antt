@@ -5,20 +5,21 @@ use Rattle.std.proofs.lemmas.List.{get_or-set_other}
 use Rattle.bao_types.specs.declared.access.Access.TheVariants.{Write}
 use Rattle.a64_state.specs.Registers.{reset_core}
 use Rattle.bao_config.specs.Data.{ConfigData, VmData}
-use Rattle.bao_wellformed.specs.Map.{is_platform_port, has_core}
+use Rattle.bao_wellformed.specs.Map.{has_core, has_port}
 use Rattle.bao_wellformed.specs.Map.{by_map}
-use Rattle.board.specs.Stage.{by_regions}
-use Rattle.board.specs.Judge.{reaches}
+use Rattle.board.specs.Stage.{by_regions, is_allowed}
+use Rattle.board.specs.Ports.{all_accessed}
+use Rattle.board.specs.Reached.{ReachesPort}
 use Rattle.board.specs.Attempt.{Outcome, Ran, Leave, Unbuilt}
 use Rattle.board.specs.Machine.{core_at, written}
-use Rattle.vm_model.specs.Flat.{Flat, Step, runs, flat_attempt, powers_after, flat_stepped, flat_step, flat_run}
+use Rattle.vm_model.specs.Flat.{Flat, Step, runs, platform_places, flat_attempt, powers_after, flat_stepped, flat_step, flat_run}
 use Rattle.vm_model.specs.Park.{parks}
 use Rattle.hypercalls.specs.declared.power.Power.{Power}
 use Rattle.hypercalls.specs.declared.power.Power.TheVariants.{Parked}
 use Rattle.vm_model.specs.Lone.{is_core_of, is_in_window, as_event, stored, emitted}
 use Rattle.vm_model.specs.Agree.{IsInMap, Agree}
 use Rattle.vm_model.specs.Apart.{IsApart}
-use Rattle.board.proofs.Reached.{stored_by_second}
+use Rattle.board.proofs.Reached.{accesses_leave, stored_by_second, touched_by_second}
 use Rattle.vm_model.proofs.Lists.{set_get_other}
 use Rattle.vm_model.proofs.Stores.{kept_alike}
 
@@ -53,13 +54,23 @@ module _ (cfg lone_cfg : ConfigData) (images : List (List ℕ)) (v : ℕ) (vm : 
   byte_alike : (at : ℕ) → IsInMap cfg vm at → written (stored cfg f core now) f.bytes at ≡ written seen_stores g.bytes at
   unfolding seen_stores
   byte_alike at in_map =
-      kept_alike (reaches (by_map cfg core) (is_platform_port cfg) Write) (λ a. is_in_window cfg (slice_get cfg.vms v) a) at
+      kept_alike (λ a. is_allowed (by_map cfg core Write a)) (λ a. is_in_window cfg (slice_get cfg.vms v) a) at
       (λ place may here.
       ap (λ o. is_in_window cfg o place) apart.place
       ∙ apart.stores core place stranger may (subst (IsInMap cfg vm) here in_map))
       (stored cfg f core now) f.bytes g.bytes
-      (stored_by_second (by_regions (core_at f.cores core)) (by_map cfg core) (is_platform_port cfg) f.bytes (core_at f.cores core) now)
+      (stored_by_second (by_regions (core_at f.cores core)) (by_map cfg core) (platform_places cfg) f.ports f.bytes (core_at f.cores core) now)
       (agree.bytes at in_map)
+
+  -- its ports are none that the other reaches
+  port_alike : (port : ℕ) → IsTrue (has_port port vm)
+      → all_accessed (flat_attempt cfg f core now).touched f.ports port ≡ g.ports port
+  port_alike port has =
+      accesses_leave (ReachesPort (by_map cfg core) (platform_places cfg)) port
+      (λ reached. let clash : true ≡ false = sym has ∙ apart.other_ports core port stranger reached in cc)
+      (flat_attempt cfg f core now).touched f.ports
+      (touched_by_second (by_regions (core_at f.cores core)) (by_map cfg core) (platform_places cfg) f.ports f.bytes (core_at f.cores core) now)
+      ∙ agree.ports port has
 
   stepped_alike : Agree cfg vm (flat_stepped cfg f core now) (record g { bytes = written seen_stores g.bytes })
   stepped_alike = record {
@@ -71,7 +82,7 @@ module _ (cfg lone_cfg : ConfigData) (images : List (List ℕ)) (v : ℕ) (vm : 
     powers = λ c has.
         power_alike (flat_attempt cfg f core now).outcome f.powers c (other_core c has) ∙ agree.powers c has;
     core_count = length-set f.cores core (flat_attempt cfg f core now).core ∙ agree.core_count;
-    consoles = agree.consoles;
+    ports = port_alike;
   }
 
   by_runs : (r : Bool)

@@ -10,10 +10,10 @@ pub use Rattle.bao_wellformed.specs.ByteRules.{is_present}
 abbrev pub IsInMap : ConfigData → VmData → ℕ → Type 0
 IsInMap cfg vm at = IsTrue (is_present (kind_at cfg vm at))
 
--- equal are all bytes of the VM's map, the registers and the power of each of its cores, and what each of its ports has put out
+-- equal are all bytes of the VM's map, the registers and the power of each of its cores, and what each of its ports keeps
 pub record Agree (cfg : ConfigData) (vm : VmData) (one other : Flat) : Type 0 where
   pub bytes : (at : ℕ) → IsInMap cfg vm at → one.bytes at ≡ other.bytes at
   pub cores : (core : ℕ) → IsTrue (has_core core vm) → core_at one.cores core ≡ core_at other.cores core
   pub powers : (core : ℕ) → IsTrue (has_core core vm) → slice_get one.powers core ≡ slice_get other.powers core
   pub core_count : length one.cores ≡ length other.cores
-  pub consoles : (port : ℕ) → IsTrue (has_port port vm) → one.console port ≡ other.console port
+  pub ports : (port : ℕ) → IsTrue (has_port port vm) → one.ports port ≡ other.ports port

@@ -3,15 +3,15 @@ use Rattle.std.specs.Prelude.{◌≡◌, ℕ, IsTrue, IsFalse, List, All, Some, 
 use Rattle.bao_config.specs.Data.{ConfigData, VmData}
 use Rattle.vm_model.specs.Flat.{Flat, FlatEvent, Step, Input, Wrote, flat_step, flat_run}
 use Rattle.vm_model.specs.Boot.{boot}
-use Rattle.vm_model.specs.Lone.{only, is_core_of, is_dev_of, is_in_window, emitted, view, lone}
+use Rattle.vm_model.specs.Lone.{only, is_core_of, is_dev_of, is_in_window, emitted, seen, view, lone}
 use Rattle.vm_model.specs.Agree.{Agree}
 use Rattle.vm_model.specs.Apart.{IsApart}
 
--- the whole machine and the VM alone on it, where they agree on the VM, do so after the same step of a core of its own
+-- the whole machine and the VM alone on it, where they agree on a VM that is apart, do so after the same step of a core of it
 abbrev pub OwnStepsAgree : Type 0
 OwnStepsAgree =
-    (cfg : ConfigData) (v : ℕ) (vm : VmData) (core now : ℕ) (f g : Flat)
-    → slice_get cfg.vms v ≡ Some vm → IsTrue (is_core_of cfg v core) → Agree cfg vm f g
+    (cfg : ConfigData) (images : List (List ℕ)) (v : ℕ) (vm : VmData) (core now : ℕ) (f g : Flat)
+    → IsApart cfg images v vm → IsTrue (is_core_of cfg v core) → Agree cfg vm f g
     → Agree cfg vm (flat_step cfg f (Step core now)) (flat_step (only cfg v) g (Step core now))
 
 -- they do so after a step of any other core in the whole machine, where the VM alone takes what that step emits
@@ -21,6 +21,13 @@ OtherStepsAgree =
     → IsApart cfg images v vm → IsFalse (is_core_of cfg v core) → Agree cfg vm f g
     → Agree cfg vm (flat_step cfg f (Step core now)) (flat_run (only cfg v) g (emitted cfg f v (Step core now)))
 
+-- they do so after a byte is given to a port, which the VM alone is given too where the port is its own
+abbrev pub InputsAgree : Type 0
+InputsAgree =
+    (cfg : ConfigData) (v : ℕ) (vm : VmData) (port byte : ℕ) (f g : Flat)
+    → slice_get cfg.vms v ≡ Some vm → Agree cfg vm f g
+    → Agree cfg vm (flat_step cfg f (Input port byte)) (flat_run (only cfg v) g (seen cfg f v (Input port byte)))
+
 -- an event of a schedule
 abbrev pub IsOfSchedule : FlatEvent → Type 0
 IsOfSchedule (Step core count) = ⊤
@@ -28,7 +35,7 @@ IsOfSchedule (Input port byte) = ⊤
 IsOfSchedule (Wrote stores) = ⊥
 
 -- After every schedule, whatever the other VMs do in it, a VM that is apart from them is where it is after its own run: alone
--- on the machine, over its own steps and what the others stored in its windows.
+-- on the machine, over its own steps, its own inputs and what the others stored in its windows.
 abbrev pub RunsAsIfAlone : Type 0
 RunsAsIfAlone =
     (cfg : ConfigData) (images : List (List ℕ)) (events : List FlatEvent) (v : ℕ) (vm : VmData)

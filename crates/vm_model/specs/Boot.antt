@@ -1,10 +1,11 @@
--- The flat machine at boot: the images lie in memory, and the first core of each VM is about to run.
+-- The flat machine at boot: the images lie in memory, the first core of each VM is about to run, and the ports are new.
 use Rattle.std.specs.Prelude.{ℕ, zero, suc, ◌==◌, List, [], ◌∷◌, map, Option, None, Some}
 use Rattle.std.specs.List.{enumerate_from, position_from}
 use Rattle.a64_state.specs.Core.{CoreData}
 use Rattle.a64_state.specs.Registers.{reset_core}
 use Rattle.bao_config.specs.Data.{ConfigData, VmData}
 use Rattle.bao_wellformed.specs.Map.{owner}
+use Rattle.board.specs.Ports.{standard_ports}
 use Rattle.board.specs.Machine.{over}
 use Rattle.hypercalls.specs.declared.power.Power.{Power}
 use Rattle.hypercalls.specs.declared.power.Power.TheVariants.{On, Off}
@@ -53,6 +54,6 @@ boot cfg images =
       bytes = boot_bytes cfg.vms images;
       cores = boot_cores cfg;
       powers = boot_powers cfg;
-      console = λ port. [];
+      ports = standard_ports;
       count = 0;
     }

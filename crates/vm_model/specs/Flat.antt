@@ -2,7 +2,9 @@
 use Rattle.std.specs.Prelude.{ℕ, ◌+◌, ◌&&◌, not, Bool, true, false, if◌then◌else◌, List, [], ◌∷◌, is_some, Option, None, Some, slice_get, slice_set}
 use Rattle.a64_state.specs.Core.{CoreData}
 use Rattle.bao_config.specs.Data.{ConfigData}
-use Rattle.bao_wellformed.specs.Map.{owner, is_platform_port, by_map}
+use Rattle.bao_wellformed.specs.Map.{owner, by_map}
+use Rattle.ports.specs.Registers.{after_input}
+use Rattle.board.specs.Ports.{Places, PortStates, places_of, with_port, all_accessed}
 use Rattle.board.specs.Stage.{by_regions}
 use Rattle.board.specs.Judge.{Reach, reach_of}
 use Rattle.board.specs.Attempt.{Outcome, Ran, Leave, Unbuilt, Effect, attempt}
@@ -11,12 +13,13 @@ use Rattle.hypercalls.specs.declared.power.Power.{Power}
 use Rattle.hypercalls.specs.declared.power.Power.TheVariants.{On, Off, Parked}
 use Rattle.vm_model.specs.Park.{parks}
 
--- memory by address, each core's registers and power by its number, what each port has put out, and the count of the last step
+-- memory by address, each core's registers and power by its number, what each port keeps, by its number, and the count of the
+-- last step
 pub record Flat : Type 0 where
   pub bytes : ℕ → ℕ
   pub cores : List CoreData
   pub powers : List Power
-  pub console : ℕ → List ℕ
+  pub ports : PortStates
   pub count : ℕ
 
 -- what happens to the flat machine. A schedule has steps and inputs alone; a lone run also has what others wrote in shared windows
@@ -35,10 +38,14 @@ is_on (Some (Parked esr far)) = false
 abbrev pub runs : ConfigData → Flat → ℕ → Bool
 runs cfg f core = is_some (owner cfg core) && is_on (slice_get f.powers core)
 
+-- where the ports of the platform stand
+abbrev pub platform_places : ConfigData → Places
+platform_places cfg = places_of (λ port. port.id) (λ port. port.base) cfg.platform.ports
+
 -- what a core reaches, by its EL1 regions and the map
 abbrev pub flat_reach : ConfigData → Flat → ℕ → Reach
 flat_reach cfg f core =
-    reach_of (by_regions (core_at f.cores core)) (by_map cfg core) (is_platform_port cfg) f.bytes
+    reach_of (by_regions (core_at f.cores core)) (by_map cfg core) (platform_places cfg) f.ports f.bytes
 
 -- what a step of the core does at a count
 abbrev pub flat_attempt : ConfigData → Flat → ℕ → ℕ → Effect
@@ -56,15 +63,20 @@ abbrev pub flat_stepped : ConfigData → Flat → ℕ → ℕ → Flat
 flat_stepped cfg f core now =
     record f {
       bytes = written (flat_attempt cfg f core now).stored f.bytes;
+      ports = all_accessed (flat_attempt cfg f core now).touched f.ports;
       cores = slice_set f.cores core (flat_attempt cfg f core now).core;
       powers = powers_after cfg core (flat_attempt cfg f core now).outcome f.powers;
       count = now;
     }
 
--- one event. No input is built, and it changes nothing
+-- after a port is given a byte
+abbrev pub flat_given : Flat → ℕ → ℕ → Flat
+flat_given f port byte = record f { ports = with_port port (after_input (f.ports port) byte) f.ports }
+
+-- one event
 abbrev pub flat_step : ConfigData → Flat → FlatEvent → Flat
 flat_step cfg f (Step core now) = if runs cfg f core then flat_stepped cfg f core now else f
-flat_step cfg f (Input port byte) = f
+flat_step cfg f (Input port byte) = flat_given f port byte
 flat_step cfg f (Wrote stores) = record f { bytes = written stores f.bytes }
 
 -- a whole run, from a state on
@@ -94,7 +106,7 @@ is_outcome_unbuilt cfg core Unbuilt = true
 -- the event does something that isn't built
 abbrev pub is_event_unbuilt : ConfigData → Flat → FlatEvent → Bool
 is_event_unbuilt cfg f (Step core now) = runs cfg f core && is_outcome_unbuilt cfg core (flat_attempt cfg f core now).outcome
-is_event_unbuilt cfg f (Input port byte) = true
+is_event_unbuilt cfg f (Input port byte) = false
 is_event_unbuilt cfg f (Wrote stores) = false
 
 -- the number of the first event that does something that isn't built, counted on from a number

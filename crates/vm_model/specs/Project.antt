@@ -7,4 +7,4 @@ use Rattle.vm_model.specs.Flat.{Flat}
 -- the flat machine for which a board stands, whose cores have these powers
 abbrev pub project : List Power → Machine → Flat
 project powers m =
-    record { bytes = m.bytes; cores = m.cores; powers = powers; console = m.console; count = m.count }
+    record { bytes = m.bytes; cores = m.cores; powers = powers; ports = m.ports; count = m.count }

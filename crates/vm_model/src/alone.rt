@@ -1,8 +1,8 @@
-ghost use Rattle.vm_model.specs.Alone.{OwnStepsAgree, OtherStepsAgree, RunsAsIfAlone, SeesItsOwn};
+ghost use Rattle.vm_model.specs.Alone.{InputsAgree, OwnStepsAgree, OtherStepsAgree, RunsAsIfAlone, SeesItsOwn};
 ghost use Rattle.vm_model.specs.Apart.{WellFormedApart, WellFormedGranular};
 
-/// A step of a core of a VM does the same to it in the whole machine and alone on it. The function does nothing; its
-/// contract is the law.
+/// A step of a core of a VM that the configuration keeps apart from the others does the same to it in the whole machine
+/// and alone on it. The function does nothing; its contract is the law.
 pub fn a_vm_steps_as_if_alone()
     ensures { OwnStepsAgree }
 {}
@@ -13,9 +13,14 @@ pub fn others_only_write_windows()
     ensures { OtherStepsAgree }
 {}
 
+/// A byte that a port is given does the same to a VM in the whole machine and alone on it, where the port is its own, and
+/// nothing where it isn't. The function does nothing; its contract is the law.
+pub fn inputs_reach_their_vm_alone()
+    ensures { InputsAgree }
+{}
+
 /// A VM's view of a run has steps of its own cores, inputs to its own ports and writes of bytes in its windows, and nothing
-/// else of the others. The
-/// function does nothing; its contract is the law.
+/// else of the others. The function does nothing; its contract is the law.
 #[tactic(auto, using(crate::proofs::View::sees_its_own))]
 pub fn a_view_has_nothing_else()
     ensures { SeesItsOwn }

@@ -8,7 +8,8 @@
 
 pub use alone::{
     a_view_has_nothing_else, a_vm_runs_as_if_alone, a_vm_steps_as_if_alone,
-    a_well_formed_configuration_keeps_its_vms_apart, others_only_write_windows,
+    a_well_formed_configuration_keeps_its_vms_apart, inputs_reach_their_vm_alone,
+    others_only_write_windows,
 };
 pub use pair::{an_overlap_is_not_apart, the_pair_is_apart, what_the_pair_sees};
 

@@ -8,6 +8,7 @@ use Rattle.bao_wellformed.specs.Map.{map_of}
 use Rattle.outside.specs.Sink.{grown, Takes, TakesPart}
 use Rattle.outside.proofs.Puts.{part_first, part_second}
 use Rattle.vm_model.specs.Project.{project}
+use Rattle.board.specs.Ports.{outputs}
 use Rattle.report.specs.Lines.{vm_line, end_line}
 use Rattle.report.specs.Section.{vm_text, cores_text, consoles_text, memory_text, all_groups}
 use Rattle.report.proofs.Progress.{takes_behind}
@@ -30,7 +31,7 @@ returns-in_err-write_consoles-clause-taken g c =
     (part_second _ _ _ _ _ cored
     (part_first _ _ _ _
     (subst (λ ds. TakesPart (g.K.Sink.taken c.write_cores.new.sink) (g.K.Sink.taken c.write_consoles.new.sink)
-    (consoles_text m.console ds)) devs
+    (consoles_text (outputs m.ports) ds)) devs
     c.in_err-write_consoles.ensures.taken))))
 
 pub returns-in_err-write_memory-clause-taken : goal.returns-in_err-write_memory-clause-taken
@@ -46,7 +47,7 @@ returns-in_err-write_memory-clause-taken g c =
     c.in_ok-write_cores.ensures.taken
     ∙ ap (λ cs. grown (g.K.Sink.taken c.put_vm.new.sink) (cores_text (project c.args.hyp.now.powers m) 0 cs)) cores in
     let shown =
-    c.in_ok-write_consoles.ensures.taken ∙ ap (λ ds. grown (g.K.Sink.taken c.write_cores.new.sink) (consoles_text m.console ds)) devs in
+    c.in_ok-write_consoles.ensures.taken ∙ ap (λ ds. grown (g.K.Sink.taken c.write_cores.new.sink) (consoles_text (outputs m.ports) ds)) devs in
     let failed : IsErr c.from_residual-in_err-write_memory.result = search rules in
     MatchResult-from_err c.from_residual-in_err-write_memory.result _ _ failed
     (λ _. part_second _ _ _ _ _ named
@@ -69,7 +70,7 @@ returns-clause-taken g c =
     c.in_ok-write_cores.ensures.taken
     ∙ ap (λ cs. grown (g.K.Sink.taken c.put_vm.new.sink) (cores_text (project c.args.hyp.now.powers m) 0 cs)) cores in
     let shown =
-    c.in_ok-write_consoles.ensures.taken ∙ ap (λ ds. grown (g.K.Sink.taken c.write_cores.new.sink) (consoles_text m.console ds)) devs in
+    c.in_ok-write_consoles.ensures.taken ∙ ap (λ ds. grown (g.K.Sink.taken c.write_cores.new.sink) (consoles_text (outputs m.ports) ds)) devs in
     let held =
     c.in_ok-write_memory.ensures.taken
     ∙ ap (λ es. grown (g.K.Sink.taken c.write_consoles.new.sink) (memory_text (kind_in es) m.bytes all_groups 0)) entries in

@@ -1,7 +1,7 @@
 use Rattle.std.proofs.Common.{◌≡◌, ◌+◌, ◌/◌, ◌%◌, ◌^◌, ◌≤◌, sym, ap, subst, ◌∙◌, arith}
 use Rattle.std.specs.Prelude.{IsTrue}
 use Rattle.board.specs.Judge.{all_from}
-use Rattle.board.specs.Attempt.{stores_from}
+use Rattle.board.specs.Ports.{stores_from}
 use Rattle.board.specs.Machine.{written}
 use Rattle.phys_bank.specs.Banks.{byte_at, is_kept}
 use Rattle.sim_board.proofs.Halves.{second_part, stores_low, stores_split}

@@ -4,8 +4,14 @@ use Rattle.bao_types.specs.Shape.{ShapeData}
 use Rattle.bao_wellformed.specs.Checked.{checked_data}
 use Rattle.vm_model.specs.Project.{project}
 use Rattle.hypervisor.specs.Taken.{after_event, event_powers, is_built}
-use Rattle.hypervisor.proofs.Models.{core_count, models}
+use Rattle.hypervisor.proofs.Models.{core_count, models, placed_on_board}
 use Rattle.hypervisor.proofs.hyp.Hyp.event.Goals as goal
+
+pub take-requires-clause-placed : goal.take-requires-clause-placed
+take-requires-clause-placed g c =
+    let m = g.B.Board.state c.args.board.now in
+    placed_on_board (checked_data c.args.checked.now) m.shape c.args.event.now c.args.checked.now.well_formed c.requires.tidy.shape
+    c.requires.placed
 
 pub take-requires-clause-cores : goal.take-requires-clause-cores
 take-requires-clause-cores g c =

@@ -7,7 +7,7 @@ use Rattle.sim_board.proofs.Confined.{safe_is_confined}
 use Rattle.sim_board.proofs.machine.SimBoardBoard.set_entry.Goals as goal
 
 pub invariant_of-self : goal.invariant_of-self
-invariant_of-self c =
+invariant_of-self g c =
     let self = c.args.self.now in let core = c.from.result in let index = c.from-2.result in
     let lists : List (List Region) = self.tables.items in
     let low : core < length lists = omega (arith, self.sound.entries_len, c.requires.core, c.from.ensures) in
@@ -23,7 +23,7 @@ invariant_of-self c =
             (safe_is_confined (shape_data self.shape) c.args.entry c.requires.safe)
             (All-get_or (All (IsConfined (shape_data self.shape))) lists core [] low self.sound.confined))
             self.sound.confined);
-        free = self.sound.free;
+        spots = self.sound.spots;
         within = self.sound.within;
         events = self.sound.events;
       };

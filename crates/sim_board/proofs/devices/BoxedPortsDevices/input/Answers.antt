@@ -1,0 +1,23 @@
+use Rattle.std.proofs.Common.{◌<◌, length, arith}
+use Rattle.ports.specs.Registers.{after_input}
+use Rattle.sim_board.proofs.PortList.{port_after, room_here, room_lowered}
+use Rattle.sim_board.proofs.devices.BoxedPortsDevices.input.Goals as goal
+
+pub input_one-requires : goal.input_one-requires
+input_one-requires g c =
+    let items = c.args.self.now.ports.items in
+    let low : c.from.result < length c.args.self.now.ports.items = omega (arith, c.args.self.now.count, c.requires.port, c.from.ensures) in
+    room_here _ items 1 c.from.result c.index_mut.result.now low c.index_mut.ensures.value c.requires.room
+
+pub returns-clause-states : goal.returns-clause-states
+returns-clause-states g c =
+    let items = c.args.self.now.ports.items in
+    let low : c.args.port < length c.args.self.now.ports.items = omega (arith, c.args.self.now.count, c.requires.port) in
+    port_after _ items c.args.port c.from.result c.index_mut.result.now c.input_one.new.port (λ s. after_input s c.args.byte)
+    c.from.ensures low c.index_mut.ensures.value c.input_one.ensures.state
+
+pub returns-clause-room : goal.returns-clause-room
+returns-clause-room g c =
+    let items = c.args.self.now.ports.items in
+    let low : c.from.result < length c.args.self.now.ports.items = omega (arith, c.args.self.now.count, c.requires.port, c.from.ensures) in
+    room_lowered _ items c.from.result c.index_mut.result.now c.input_one.new.port low c.index_mut.ensures.value c.input_one.ensures.spare

@@ -1,0 +1,26 @@
+-- The ports of a board, by what a step asks of them.
+use Rattle.std.specs.Prelude.{ℕ, ◌*◌, min, Bool, ◌||◌, List, [], ◌∷◌, slice_index_or}
+use Rattle.bao_types.specs.Shape.{event_limit}
+use Rattle.bao_types.specs.declared.shape.PortSpot.{PortSpot}
+use Rattle.ports.specs.PortState.{PortState, new_port}
+use Rattle.ports.specs.declared.port.PortKind.TheVariants.{Console}
+use Rattle.board.specs.Machine.{port_places}
+use Rattle.board.specs.Ports.{PortByte as PlaceInPort, PortStates, is_port}
+use Rattle.sim_board.specs.declared.spots.PortByte.{PortByte}
+
+-- what each port keeps, by its number, of ports whose states are listed in order
+abbrev pub states_of : List PortState → PortStates
+states_of states port = slice_index_or states port (new_port Console)
+
+-- of ports that have room for so many writes and inputs each: for how many all have it, of as many as a board takes at most
+abbrev pub least_room : List ℕ → ℕ
+least_room [] = 2 * event_limit
+least_room (spare ∷ spares) = min spare (least_room spares)
+
+-- the byte of a port as the code holds it
+abbrev pub place_of : PortByte → PlaceInPort
+place_of byte = record { port = byte.port; offset = byte.offset }
+
+-- a byte is a port's, or is kept in memory
+abbrev pub is_backed : List PortSpot → (ℕ → Bool) → ℕ → Bool
+is_backed spots is_kept at = is_port (port_places spots) at || is_kept at

@@ -1,0 +1,272 @@
+//! The ports of a board, where they stand, and what a step does to them.
+ghost use Rattle.std.specs.Prelude.{◌≡◌, ℕ, ◌+◌, ◌*◌, ◌≤◌, ◌<◌, ◌%◌, ◌^◌, false, List, [], All, IsTrue, OnOk, length, slice_index, map};
+ghost use Rattle.std.specs.Option.{option_map};
+ghost use Rattle.bao_types.specs.Bytes.{IsWidth};
+ghost use Rattle.bao_types.specs.Shape.{event_limit, port_size};
+ghost use Rattle.bao_types.specs.declared.shape.PortSpot.{PortSpot};
+ghost use Rattle.ports.specs.PortState.{byte_count, output_of};
+ghost use Rattle.ports.specs.Registers.{after_input, after_read, after_write, value_read};
+ghost use Rattle.board.specs.Judge.{is_free};
+ghost use Rattle.board.specs.Machine.{port_places};
+ghost use Rattle.board.specs.Ports.{PortStates, all_accessed, element_read, element_written, is_port, outputs, port_count, with_port};
+ghost use Rattle.sim_board.specs.Devices.{least_room, states_of};
+ghost use Rattle.sim_board.specs.Gap.{IsGap};
+
+use crate::gap::Gap;
+use crate::spots::{PortByte, port_at};
+use arrayvec::ArrayVec;
+use bao_types::{OutOfMemory, PortSpot};
+use ports::Port;
+use std::alloc::Global;
+
+/// The ports of a board, as its calls and a core's step reach them.
+pub(crate) trait Devices {
+    // what each port keeps, by its number
+    ghost states: { Self → PortStates };
+
+    // for how many writes and inputs each port has room, of as many as a board takes at most
+    ghost room: { Self → ℕ };
+
+    // where the ports stand that the board's shape has
+    ghost spots: { Self → List PortSpot };
+
+    /// Whether none of so many bytes is a port's.
+    fn is_free(&self, at: u64, count: u8) -> bool
+        ensures { result ≡ is_free (port_places (spots self.now)) at count };
+
+    /// Reads an element in the port that has its first byte; None where none has.
+    fn read(&mut self, at: u64, width: u32) -> Option<u64>
+        requires width { IsWidth width }
+        requires aligned { at % width ≡ 0 }
+        ensures value { result ≡ option_map (λ byte. value_read (states self.old byte.port) byte.offset width)
+            (port_places (spots self.old) at) }
+        ensures states { states self.new ≡ all_accessed (element_read (port_places (spots self.old) at) width) (states self.old) }
+        ensures room { room self.new ≡ room self.old }
+        ensures spots { spots self.new ≡ spots self.old };
+
+    /// Writes an element, the lowest bytes of a value, in the port that has its first byte, and answers whether one has.
+    fn write(&mut self, at: u64, width: u32, value: u128) -> bool
+        requires width { IsWidth width }
+        requires aligned { at % width ≡ 0 }
+        requires room { 1 ≤ room self.old }
+        ensures port { result ≡ is_port (port_places (spots self.old)) at }
+        ensures apart { result ≡ false → IsTrue (is_free (port_places (spots self.old)) at width) }
+        ensures states { states self.new ≡ all_accessed (element_written (port_places (spots self.old) at) width value) (states self.old) }
+        ensures room { room self.old ≤ room self.new + 1 }
+        ensures spots { spots self.new ≡ spots self.old };
+
+    /// Gives a port a byte.
+    fn input(&mut self, port: u8, byte: u8)
+        requires port { port < port_count }
+        requires room { 1 ≤ room self.old }
+        ensures states { states self.new ≡ with_port port (after_input (states self.old port) byte) (states self.old) }
+        ensures room { room self.old ≤ room self.new + 1 }
+        ensures spots { spots self.new ≡ spots self.old };
+
+    /// Makes room in each port for two writes or inputs of each event.
+    fn reserve(&mut self, alloc: Global, events: u32) -> Result<(), OutOfMemory>
+        requires events { events ≤ event_limit }
+        requires bytes { (port : ℕ) → byte_count (states self.old port) ≤ 2 * event_limit }
+        ensures room { OnOk result (2 * events ≤ room self.new) }
+        ensures states { states self.new ≡ states self.old }
+        ensures spots { spots self.new ≡ spots self.old };
+
+    /// Lets the ports stand at these addresses; `near` is one that most accesses are near.
+    fn stand(&mut self, places: ArrayVec<PortSpot, 16>, near: u64)
+        requires numbers { All (λ spot. spot.id < port_count) places.items }
+        requires bases { All (λ spot. spot.base % port_size ≡ 0) places.items }
+        ensures spots { spots self.new ≡ places.items }
+        ensures states { states self.new ≡ states self.old }
+        ensures room { room self.new ≡ room self.old };
+
+    /// How many bytes a port has put out.
+    fn out_len(&self, port: u8) -> u32
+        requires { port < port_count }
+        ensures { result ≡ length (outputs (states self.now) port) };
+
+    /// One of the bytes that a port has put out.
+    fn out_at(&self, port: u8, i: u32) -> u8
+        requires port { port < port_count }
+        requires place { i < length (outputs (states self.now) port) }
+        ensures { result ≡ slice_index (outputs (states self.now) port) i };
+}
+
+/// Ports of which nothing is known but that they are ports.
+#[derive(Drop)]
+pub(crate) struct BoxedPorts {
+    /// By their numbers.
+    ports: Vec<Box<dyn Port>>,
+    spots: ArrayVec<PortSpot, 16>,
+    /// Addresses that need no look at each spot.
+    gap: Gap,
+    ghost count: { length ports.items ≡ port_count },
+    ghost numbers: { All (λ spot. spot.id < port_count) spots.items },
+    ghost bases: { All (λ spot. spot.base % port_size ≡ 0) spots.items },
+    ghost free: { IsGap spots.items gap },
+}
+
+impl Devices for BoxedPorts {
+    ghost states = { λ devices. states_of (map (λ port. (Port-box port).state port.value) devices.ports.items) };
+
+    ghost room = { λ devices. least_room (map (λ port. (Port-box port).spare port.value) devices.ports.items) };
+
+    ghost spots = { λ devices. devices.spots.items };
+
+    #[inline(always)]
+    fn is_free(&self, at: u64, count: u8) -> bool {
+        self.gap.has_all(at, count) || is_each_free(&self.spots, at, count)
+    }
+
+    #[inline(never)]
+    fn read(&mut self, at: u64, width: u32) -> Option<u64> {
+        match port_at(&self.spots, at) {
+            Some(byte) => Some(read_one(
+                &mut self.ports[usize::from(byte.port)],
+                byte.offset,
+                width,
+            )),
+            None => None,
+        }
+    }
+
+    #[inline(never)]
+    fn write(&mut self, at: u64, width: u32, value: u128) -> bool {
+        match port_at(&self.spots, at) {
+            Some(byte) => {
+                let part = (value % power(width)) as u64;
+                write_one(
+                    &mut self.ports[usize::from(byte.port)],
+                    byte.offset,
+                    width,
+                    part,
+                );
+                true
+            }
+            None => false,
+        }
+    }
+
+    fn input(&mut self, port: u8, byte: u8) {
+        input_one(&mut self.ports[usize::from(port)], byte);
+    }
+
+    fn reserve(&mut self, alloc: Global, events: u32) -> Result<(), OutOfMemory> {
+        for i in 0..self.ports.len() {
+            reserve_one(&mut self.ports[i], alloc, events)?;
+        }
+        Ok(())
+    }
+
+    fn stand(&mut self, places: ArrayVec<PortSpot, 16>, near: u64) {
+        self.gap = Gap::around(&places, near);
+        self.spots = places;
+    }
+
+    fn out_len(&self, port: u8) -> u32 {
+        out_len_of(&self.ports[usize::from(port)])
+    }
+
+    fn out_at(&self, port: u8, i: u32) -> u8 {
+        out_at_of(&self.ports[usize::from(port)], i)
+    }
+}
+
+impl BoxedPorts {
+    /// These ports, none of which stands anywhere yet.
+    pub fn new(ports: Vec<Box<dyn Port>>) -> BoxedPorts
+        requires { length ports.items ≡ port_count }
+        ensures states { ⟦<BoxedPorts as Devices>⟧.states result ≡ states_of (map (λ port. state port) ports.items) }
+        ensures spots { ⟦<BoxedPorts as Devices>⟧.spots result ≡ [] }
+    {
+        BoxedPorts {
+            ports,
+            spots: ArrayVec::new(),
+            gap: Gap::NONE,
+        }
+    }
+}
+
+/// 256 to the power of a width, above which the next element lies.
+pub(crate) fn power(width: u32) -> u128
+    requires { IsWidth width }
+    ensures value { result ≡ 256 ^ width }
+    ensures bound { result ≤ 2 ^ 64 }
+    ensures some { 1 ≤ result }
+{
+    match width {
+        1 => 1 << 8,
+        2 => 1 << 16,
+        4 => 1 << 32,
+        _ => 1 << 64,
+    }
+}
+
+/// Whether none of so many bytes is a port's, byte by byte.
+#[inline(never)]
+fn is_each_free(spots: &[PortSpot], at: u64, count: u8) -> bool
+    requires numbers { All (λ spot. spot.id < port_count) spots.now }
+    requires bases { All (λ spot. spot.base % port_size ≡ 0) spots.now }
+    ensures { result ≡ is_free (port_places spots.now) at count }
+{
+    if count == 0 {
+        return true;
+    }
+    if port_at(spots, at).is_some() {
+        return false;
+    }
+    is_each_free(spots, at.wrapping_add(1), count - 1)
+}
+
+/// Reads in one port.
+fn read_one(port: &mut Box<dyn Port>, offset: u32, width: u32) -> u64
+    requires { offset + width ≤ port_size }
+    ensures value { result ≡ value_read (state port.old) offset width }
+    ensures state { state port.new ≡ after_read (state port.old) offset width }
+    ensures spare { spare port.new ≡ spare port.old }
+{
+    port.read(offset, width)
+}
+
+/// Gives one port a byte. Which line the byte raises is nothing to the board yet.
+fn input_one(port: &mut Box<dyn Port>, byte: u8)
+    requires { 1 ≤ spare port.old }
+    ensures state { state port.new ≡ after_input (state port.old) byte }
+    ensures spare { spare port.old ≤ spare port.new + 1 }
+{
+    port.input(byte);
+}
+
+/// Makes room in one port.
+fn reserve_one(port: &mut Box<dyn Port>, alloc: Global, events: u32) -> Result<(), OutOfMemory>
+    requires events { events ≤ event_limit }
+    requires bytes { byte_count (state port.old) ≤ 2 * event_limit }
+    ensures room { OnOk result (2 * events ≤ spare port.new) }
+    ensures state { state port.new ≡ state port.old }
+{
+    port.reserve(alloc, events)
+}
+
+/// Writes in one port. Which line the write raises is nothing to the board yet.
+fn write_one(port: &mut Box<dyn Port>, offset: u32, width: u32, value: u64)
+    requires access { offset + width ≤ port_size }
+    requires spare { 1 ≤ spare port.old }
+    ensures state { state port.new ≡ after_write (state port.old) offset width value }
+    ensures spare { spare port.old ≤ spare port.new + 1 }
+{
+    port.write(offset, width, value);
+}
+
+/// How many bytes one port has put out.
+fn out_len_of(port: &Box<dyn Port>) -> u32
+    ensures { result ≡ length (output_of (state port.now)) }
+{
+    port.out_len()
+}
+
+/// One of the bytes that one port has put out.
+fn out_at_of(port: &Box<dyn Port>, i: u32) -> u8
+    requires { i < length (output_of (state port.now)) }
+    ensures { result ≡ slice_index (output_of (state port.now)) i }
+{
+    port.out_at(i)
+}
