@@ -1,0 +1,5 @@
+mod Cuts
+mod Numbers
+mod Hex
+mod Offsets
+mod Words

@@ -1,0 +1,5 @@
+pub mod Text
+pub mod Number
+pub mod Register
+pub mod Mnemonic
+pub mod Listing

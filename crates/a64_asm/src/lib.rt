@@ -1,0 +1,16 @@
+//! An assembler for small guests, and a listing: lines of text, and the words that they say.
+//!
+//! The line forms are said once in `specs/`, as the text of an instruction and as what a line says. What a word is, is said
+//! by `a64_decode` alone.
+#![tactic(auto)]
+
+mod error;
+mod listing;
+mod mnemonic;
+mod number;
+mod register;
+mod text;
+mod write;
+
+pub use error::{AsmError, ListError};
+pub use listing::list;
