@@ -5,10 +5,14 @@
 #![tactic(auto)]
 
 mod error;
+mod label;
 mod listing;
 mod mnemonic;
 mod number;
+mod operand;
+mod reading;
 mod register;
+mod said;
 mod text;
 mod write;
 

@@ -9,8 +9,13 @@ ghost use Rattle.a64_asm.specs.Listing.{phrase, move_text, add_text, registers_t
 
 use crate::error::ListError;
 use crate::mnemonic::{Mnemonic, name};
-use crate::write::{push_decimal, push_hex, push_name, push_offset, push_operand, push_register, push_text};
-use a64_decode::{BranchKind, Condition, ExceptionKind, Instr, LogicalKind, MoveKind, Reg, Shift, Size, Transfer, decode};
+use crate::write::{
+    push_decimal, push_hex, push_name, push_offset, push_operand, push_register, push_text,
+};
+use a64_decode::{
+    BranchKind, Condition, ExceptionKind, Instr, LogicalKind, MoveKind, Reg, Shift, Size, Transfer,
+    decode,
+};
 use bao_types::SysId;
 use std::alloc::{AllocError, Global};
 
@@ -272,10 +277,31 @@ fn push_transfer(
 {
     let count = u64::from(imm12);
     match size {
-        Size::Byte => push_at(out, Mnemonic::Access { load, byte: true }, false, count, rn, rt),
+        Size::Byte => push_at(
+            out,
+            Mnemonic::Access { load, byte: true },
+            false,
+            count,
+            rn,
+            rt,
+        ),
         Size::Half => Ok(false),
-        Size::Word => push_at(out, Mnemonic::Access { load, byte: false }, false, 4 * count, rn, rt),
-        Size::Double => push_at(out, Mnemonic::Access { load, byte: false }, true, 8 * count, rn, rt),
+        Size::Word => push_at(
+            out,
+            Mnemonic::Access { load, byte: false },
+            false,
+            4 * count,
+            rn,
+            rt,
+        ),
+        Size::Double => push_at(
+            out,
+            Mnemonic::Access { load, byte: false },
+            true,
+            8 * count,
+            rn,
+            rt,
+        ),
     }
 }
 

@@ -47,10 +47,22 @@ pub(crate) fn name(mnemonic: Mnemonic) -> &'static [u8]
         Mnemonic::Logical(LogicalKind::Orr) => b"orr",
         Mnemonic::Logical(LogicalKind::Eor) => b"eor",
         Mnemonic::Logical(LogicalKind::Ands) => b"ands",
-        Mnemonic::Access { load: true, byte: false } => b"ldr",
-        Mnemonic::Access { load: false, byte: false } => b"str",
-        Mnemonic::Access { load: true, byte: true } => b"ldrb",
-        Mnemonic::Access { load: false, byte: true } => b"strb",
+        Mnemonic::Access {
+            load: true,
+            byte: false,
+        } => b"ldr",
+        Mnemonic::Access {
+            load: false,
+            byte: false,
+        } => b"str",
+        Mnemonic::Access {
+            load: true,
+            byte: true,
+        } => b"ldrb",
+        Mnemonic::Access {
+            load: false,
+            byte: true,
+        } => b"strb",
         Mnemonic::Branch { link: false } => b"b",
         Mnemonic::Branch { link: true } => b"bl",
         Mnemonic::BranchIf(condition) => branch_name(condition),
@@ -104,10 +116,22 @@ static MNEMONICS: [Mnemonic; 42] = [
     Mnemonic::Logical(LogicalKind::And),
     Mnemonic::Logical(LogicalKind::Orr),
     Mnemonic::Logical(LogicalKind::Eor),
-    Mnemonic::Access { load: true, byte: false },
-    Mnemonic::Access { load: false, byte: false },
-    Mnemonic::Access { load: true, byte: true },
-    Mnemonic::Access { load: false, byte: true },
+    Mnemonic::Access {
+        load: true,
+        byte: false,
+    },
+    Mnemonic::Access {
+        load: false,
+        byte: false,
+    },
+    Mnemonic::Access {
+        load: true,
+        byte: true,
+    },
+    Mnemonic::Access {
+        load: false,
+        byte: true,
+    },
     Mnemonic::Branch { link: false },
     Mnemonic::Branch { link: true },
     Mnemonic::CompareBranch { nonzero: false },
