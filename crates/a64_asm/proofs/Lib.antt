@@ -3,3 +3,9 @@ mod Numbers
 mod Hex
 mod Offsets
 mod Words
+mod Lines
+mod Labelled
+mod Assembling
+mod Encodable
+mod HasWord
+mod Sayable

@@ -6,3 +6,5 @@ pub mod Listing
 pub mod Labels
 pub mod Operand
 pub mod Reading
+pub mod Source
+pub mod Progress

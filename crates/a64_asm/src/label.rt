@@ -1,17 +1,23 @@
 //! Labels, and what a branch names.
-ghost use Rattle.std.specs.Prelude.{◌≡◌, ◌<◌};
+ghost use Rattle.std.specs.Prelude.{◌≡◌, ◌<◌, ◌^◌, ◌+◌, ◌≤◌, ℕ, List, length, MatchOption, MatchResult, Some, None};
 ghost use Rattle.std.specs.List.{list_all};
 ghost use Rattle.a64_asm.specs.Operand.{is_letter, is_name_byte, is_name, begins_with_letter, distance_of, signed_of, distance_between, distance_to, target_of, words_in, is_within, words_to};
+ghost use Rattle.std.specs.Option.{option_or};
+ghost use Rattle.a64_asm.specs.declared.error.AsmError.TheVariants.{OutOfMemory};
 ghost use Rattle.a64_asm.specs.Labels.{looked_up};
+ghost use Rattle.a64_asm.specs.Source.{label_of, is_blank, is_word, definition_at, next_of, definitions};
 
+use crate::error::AsmError;
 use crate::number::number;
 use crate::operand::Distance;
+use crate::text::cut_at;
+use std::alloc::Global;
 use std::collections::BTreeMap;
 
 /// Where a label is defined first.
 #[derive(Clone, Copy)]
 pub struct Definition {
-    /// The line, counted from 1.
+    /// How many lines stand before it.
     pub line: u32,
     /// How many words stand before it.
     pub place: u32,
@@ -157,4 +163,93 @@ fn words_in(distance: &Distance) -> u64
     } else {
         words
     }
+}
+
+/// The name in a line that is a label.
+#[tactic(auto, unfolding(crate::specs::Source::label_of))]
+pub(crate) fn label(line: &[u8]) -> Option<&[u8]>
+    ensures { MatchOption result (label_of line.now ≡ None) (λ name. label_of line.now ≡ Some name.now) }
+{
+    match cut_at(line, b':') {
+        Some((name, [])) if is_name(name) => Some(name),
+        _ => None,
+    }
+}
+
+/// Whether a line is empty or a comment.
+pub(crate) fn is_blank(line: &[u8]) -> bool
+    ensures { result ≡ is_blank line.now }
+{
+    match line.split_first() {
+        None => true,
+        Some((first, _)) => *first == b';',
+    }
+}
+
+/// Whether a line counts as a word.
+#[tactic(auto, unfolding(crate::specs::Source::is_word))]
+fn is_word(line: &[u8]) -> bool
+    ensures { result ≡ is_word line.now }
+{
+    if is_blank(line) {
+        return false;
+    }
+    match label(line) {
+        None => true,
+        Some(_) => false,
+    }
+}
+
+impl Definition {
+    /// The place behind this line.
+    pub(crate) fn next(self, line: &[u8]) -> Definition
+        requires line { self.line + 1 < 2 ^ 32 }
+        requires place { self.place + 1 < 2 ^ 32 }
+        ensures { result ≡ next_of self line.now }
+    {
+        Definition {
+            line: self.line + 1,
+            place: if is_word(line) {
+                self.place + 1
+            } else {
+                self.place
+            },
+        }
+    }
+}
+
+/// Where each label of a source is defined first.
+pub(crate) fn collect(alloc: Global, text: &[u8]) -> Result<Labels<'_>, AsmError>
+    requires { length text.now < 2 ^ 32 }
+    ensures { MatchResult result (λ labels. (name : List ℕ) → looked_up labels name ≡ definitions text.now name)
+        (λ error. error ≡ OutOfMemory) }
+{
+    let mut labels = BTreeMap::new(alloc);
+    let mut here = Definition { line: 0, place: 0 };
+    let mut rest = text;
+    while let Some((line, others)) = cut_at(rest, b'\n') {
+        note(&mut labels, here, line)?;
+        here = here.next(line);
+        rest = others;
+    }
+    Ok(labels)
+}
+
+/// Takes a line's label, unless an earlier line had it.
+fn note<'a>(labels: &mut Labels<'a>, here: Definition, line: &'a [u8]) -> Result<(), AsmError>
+    ensures { MatchResult result
+        (λ done. (name : List ℕ) → looked_up labels.new name
+            ≡ option_or (looked_up labels.old name) (definition_at here (label_of line.now) name))
+        (λ error. error ≡ OutOfMemory) }
+{
+    let Some(name) = label(line) else {
+        return Ok(());
+    };
+    if look_up(labels, name).is_some() {
+        return Ok(());
+    }
+    if labels.insert(name, here).is_err() {
+        return Err(AsmError::OutOfMemory);
+    }
+    Ok(())
 }

@@ -13,8 +13,10 @@ mod operand;
 mod reading;
 mod register;
 mod said;
+mod source;
 mod text;
 mod write;
 
 pub use error::{AsmError, ListError};
 pub use listing::list;
+pub use source::assemble;
