@@ -22,7 +22,7 @@ begins text bytes none =
     record { left = ap (λ b. assembled_from (definitions text) b beginning (lines_of text)) (sym none); lines = omega arith; place = omega arith }
 
 -- the first line decides, where something stands behind it
-next_line : (labels : List ℕ → Option Definition) (bytes : List ℕ) (here : Definition) (line : List ℕ) (more : List (List ℕ)) → 0 < length more
+pub next_line : (labels : List ℕ → Option Definition) (bytes : List ℕ) (here : Definition) (line : List ℕ) (more : List (List ℕ)) → 0 < length more
     → assembled_from labels bytes here (line ∷ more)
     ≡ unless_bad (here.line + 1) (broken_by (judged labels here line))
     (assembled_from labels (bytes ++ bytes_in (judged labels here line)) (next_of here line) more)

@@ -9,3 +9,7 @@ mod Assembling
 mod Encodable
 mod HasWord
 mod Sayable
+mod LawfulWords
+mod Spelled
+mod Back
+mod Listed

@@ -8,3 +8,4 @@ pub mod Operand
 pub mod Reading
 pub mod Source
 pub mod Progress
+pub mod Laws

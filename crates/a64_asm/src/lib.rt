@@ -6,6 +6,7 @@
 
 mod error;
 mod label;
+mod law;
 mod listing;
 mod mnemonic;
 mod number;
@@ -18,5 +19,6 @@ mod text;
 mod write;
 
 pub use error::{AsmError, ListError};
+pub use law::{a_line_gives_the_word_of_its_instruction, a_listing_gives_its_image_back};
 pub use listing::list;
 pub use source::assemble;
