@@ -226,7 +226,6 @@ add_line subtract wide imm12 rn rd few n d =
     ∙ rw (number_read imm12 (omega (arith, few)), register_read true wide rd d, register_read true wide rn n) (number_added_back subtract wide imm12 rn rd few))
     (hushed_three a b (decimal imm12) (hushed a pa) (hushed b pb) (hushed (decimal imm12) pi))
 
-
 -- no register's name is a number
 none_is : (n : Option ℕ) → is_none n ≡ true → n ≡ None
 none_is None h = refl

@@ -249,13 +249,88 @@ keeps_load_store_unsigned word =
 
 keeps_all : AllKeep table
 unfolding table branch_rows system_rows register_rows source_rows load_store_rows
-keeps_all =
-    (keeps_address, (keeps_add_sub_immediate, (keeps_logical_immediate, (keeps_move_wide, (keeps_bitfield, (keeps_extract,
-    (keeps_branch, (keeps_branch_conditional, (keeps_compare_branch, (keeps_test_branch, (keeps_branch_register,
-    (keeps_exception_return, (keeps_exception, (keeps_hint, (keeps_barrier, (keeps_msr_immediate, (keeps_system, (keeps_system_register,
-    (keeps_logical_shifted, (keeps_add_sub_shifted, (keeps_add_sub_extended, (keeps_add_sub_carry,
-    (keeps_conditional_compare, (keeps_conditional_select, (keeps_three_sources, (keeps_two_sources, (keeps_one_source,
-    (keeps_load_literal, (keeps_pair, (keeps_load_store_unsigned, (keeps_load_store_indexed, (keeps_load_store_register, tt))))))))))))))))))))))))))))))))
+keeps_all = (
+  keeps_address,
+  (
+    keeps_add_sub_immediate,
+    (
+      keeps_logical_immediate,
+      (
+        keeps_move_wide,
+        (
+          keeps_bitfield,
+          (
+            keeps_extract,
+            (
+              keeps_branch,
+              (
+                keeps_branch_conditional,
+                (
+                  keeps_compare_branch,
+                  (
+                    keeps_test_branch,
+                    (
+                      keeps_branch_register,
+                      (
+                        keeps_exception_return,
+                        (
+                          keeps_exception,
+                          (
+                            keeps_hint,
+                            (
+                              keeps_barrier,
+                              (
+                                keeps_msr_immediate,
+                                (
+                                  keeps_system,
+                                  (
+                                    keeps_system_register,
+                                    (
+                                      keeps_logical_shifted,
+                                      (
+                                        keeps_add_sub_shifted,
+                                        (
+                                          keeps_add_sub_extended,
+                                          (
+                                            keeps_add_sub_carry,
+                                            (
+                                              keeps_conditional_compare,
+                                              (
+                                                keeps_conditional_select,
+                                                (
+                                                  keeps_three_sources,
+                                                  (
+                                                    keeps_two_sources,
+                                                    (
+                                                      keeps_one_source,
+                                                      (keeps_load_literal, (keeps_pair, (keeps_load_store_unsigned, (keeps_load_store_indexed, (keeps_load_store_register, tt))))),
+                                                    ),
+                                                  ),
+                                                ),
+                                              ),
+                                            ),
+                                          ),
+                                        ),
+                                      ),
+                                    ),
+                                  ),
+                                ),
+                              ),
+                            ),
+                          ),
+                        ),
+                      ),
+                    ),
+                  ),
+                ),
+              ),
+            ),
+          ),
+        ),
+      ),
+    ),
+  ),
+)
 
 -- each word
 pub lawful_words : (word : ℕ) → IsKept (decoded word)

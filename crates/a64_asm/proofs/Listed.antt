@@ -62,18 +62,18 @@ transfer_line : (load : Bool) (size : Size) (imm12 : ℕ) (rn rt : Reg) → imm1
     → IsFormLine (transfer_form load size imm12 rn rt) (instr.LoadStoreUnsigned size (transfer_of load) imm12 rn rt)
 transfer_line load size.Byte imm12 rn rt few n t = (
   access_line load true false imm12 rn rt _ (omega (arith, few)) n t
-  (transferred_back load size.Byte 1 imm12 imm12 (named false rt.0) (named true rn.0) few (omega arith) (omega arith)),
+      (transferred_back load size.Byte 1 imm12 imm12 (named false rt.0) (named true rn.0) few (omega arith) (omega arith)),
   λ e. cc,
 )
 transfer_line load size.Half imm12 rn rt few n t = tt
 transfer_line load size.Word imm12 rn rt few n t = (
   access_line load false false (4 * imm12) rn rt _ (omega (arith, few)) n t
-  (transferred_back load size.Word 4 (4 * imm12) imm12 (named false rt.0) (named true rn.0) few (omega arith) (omega arith)),
+      (transferred_back load size.Word 4 (4 * imm12) imm12 (named false rt.0) (named true rn.0) few (omega arith) (omega arith)),
   λ e. cc,
 )
 transfer_line load size.Double imm12 rn rt few n t = (
   access_line load false true (8 * imm12) rn rt _ (omega (arith, few)) n t
-  (transferred_back load size.Double 8 (8 * imm12) imm12 (named true rt.0) (named true rn.0) few (omega arith) (omega arith)),
+      (transferred_back load size.Double 8 (8 * imm12) imm12 (named true rt.0) (named true rn.0) few (omega arith) (omega arith)),
   λ e. cc,
 )
 

@@ -148,9 +148,9 @@ system_said read (Some n) None = Err 1
 system_said read (Some n) (Some rt) =
     if rt.wide
     then
-      if is_system n
-      then Ok (Instruction (instr.SystemRegister read (record { op0 = n.op0; op1 = n.op1; crn = n.crn; crm = n.crm; op2 = n.op2 }) rt.reg))
-      else Err 2
+    if is_system n
+    then Ok (Instruction (instr.SystemRegister read (record { op0 = n.op0; op1 = n.op1; crn = n.crn; crm = n.crm; op2 = n.op2 }) rt.reg))
+    else Err 2
     else Err 1
 
 abbrev pub system_row : Bool → Cut → Result Said ℕ

@@ -239,7 +239,7 @@ pub(crate) fn collect(alloc: Global, text: &[u8]) -> Result<Labels<'_>, AsmError
 fn note<'a>(labels: &mut Labels<'a>, here: Definition, line: &'a [u8]) -> Result<(), AsmError>
     ensures { MatchResult result
         (λ done. (name : List ℕ) → looked_up labels.new name
-            ≡ option_or (looked_up labels.old name) (definition_at here (label_of line.now) name))
+        ≡ option_or (looked_up labels.old name) (definition_at here (label_of line.now) name))
         (λ error. error ≡ OutOfMemory) }
 {
     let Some(name) = label(line) else {

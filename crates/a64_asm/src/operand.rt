@@ -126,7 +126,13 @@ fn last_numbers(op0: Option<u64>, op1: Option<u64>, text: &[u8]) -> Option<Numbe
 {
     let (crn, others) = cut_at(text, b'_')?;
     let (crm, op2) = cut_at(others, b'_')?;
-    all_numbers(op0, op1, number_behind(crn, b'c'), number_behind(crm, b'c'), number(op2))
+    all_numbers(
+        op0,
+        op1,
+        number_behind(crn, b'c'),
+        number_behind(crm, b'c'),
+        number(op2),
+    )
 }
 
 /// The five numbers, where all are there.

@@ -9,11 +9,15 @@ ghost use Rattle.a64_asm.specs.Reading.{is_shift, moved, move_row, number_added,
 use crate::label::{Labels, target, words_to};
 use crate::mnemonic::{Mnemonic, read_mnemonic};
 use crate::number::{hex_word, number};
-use crate::operand::{Numbers, Trio, base, is_same, make_trio, offset, system_numbers, three_operands};
+use crate::operand::{
+    Numbers, Trio, base, is_same, make_trio, offset, system_numbers, three_operands,
+};
 use crate::register::{Register, read_register};
 use crate::said::Said;
 use crate::text::{cut_at, first_operand};
-use a64_decode::{BranchKind, Condition, ExceptionKind, Instr, LogicalKind, MoveKind, Shift, Size, Transfer};
+use a64_decode::{
+    BranchKind, Condition, ExceptionKind, Instr, LogicalKind, MoveKind, Shift, Size, Transfer,
+};
 use bao_types::SysId;
 
 /// What a line says that is the word of this place, else the first of the rules 1 to 3 that it breaks.
@@ -40,12 +44,7 @@ fn alone(mnemonic: Option<Mnemonic>) -> Result<Said, u8>
 
 /// A first word with the text of its operands.
 #[tactic(auto, unfolding(crate::specs::Reading::row_of))]
-fn row(
-    labels: &Labels<'_>,
-    place: u32,
-    mnemonic: Option<Mnemonic>,
-    text: &[u8],
-) -> Result<Said, u8>
+fn row(labels: &Labels<'_>, place: u32, mnemonic: Option<Mnemonic>, text: &[u8]) -> Result<Said, u8>
     ensures { result ≡ row_of (looked_up labels.now) place mnemonic text.now }
 {
     match mnemonic {
@@ -54,8 +53,14 @@ fn row(
         Some(Mnemonic::AddSub { subtract }) => add_row(subtract, text),
         Some(Mnemonic::Logical(kind)) => logical_row(kind, text),
         Some(Mnemonic::Access { load, byte }) => access_row(load, byte, text),
-        Some(Mnemonic::Branch { link }) => branch_row(link, words_to(26, target(labels, place, text))),
-        Some(Mnemonic::BranchIf(condition)) => condition_row(condition, words_to(19, target(labels, place, text))),
+        Some(Mnemonic::Branch { link }) => branch_row(
+            link,
+            words_to(26, target(labels, place, text)),
+        ),
+        Some(Mnemonic::BranchIf(condition)) => condition_row(
+            condition,
+            words_to(19, target(labels, place, text)),
+        ),
         Some(Mnemonic::CompareBranch { nonzero }) => compare_row(labels, place, nonzero, text),
         Some(Mnemonic::BranchRegister(kind)) => register_row(kind, read_register(text, false)),
         Some(Mnemonic::Exception(kind)) => exception_row(kind, number(text)),
@@ -113,7 +118,12 @@ fn add_row(subtract: bool, text: &[u8]) -> Result<Said, u8>
         return Err(1);
     };
     match number(last) {
-        Some(imm) => number_added(subtract, read_register(rd, true), read_register(rn, true), imm),
+        Some(imm) => number_added(
+            subtract,
+            read_register(rd, true),
+            read_register(rn, true),
+            imm,
+        ),
         None => registers_added(subtract, named_trio(rd, rn, last)),
     }
 }
@@ -151,7 +161,11 @@ fn number_added(
 fn named_trio(rd: &[u8], rn: &[u8], rm: &[u8]) -> Option<Trio>
     ensures { result ≡ trio_of (register_of false rd.now) (register_of false rn.now) (register_of false rm.now) }
 {
-    make_trio(read_register(rd, false), read_register(rn, false), read_register(rm, false))
+    make_trio(
+        read_register(rd, false),
+        read_register(rn, false),
+        read_register(rm, false),
+    )
 }
 
 fn registers_added(subtract: bool, trio: Option<Trio>) -> Result<Said, u8>
@@ -206,7 +220,13 @@ fn access_row(load: bool, byte: bool, text: &[u8]) -> Result<Said, u8>
 {
     match three_operands(text) {
         None => Err(1),
-        Some((rt, rn, number)) => access(load, byte, read_register(rt, false), base(rn), offset(number)),
+        Some((rt, rn, number)) => access(
+            load,
+            byte,
+            read_register(rt, false),
+            base(rn),
+            offset(number),
+        ),
     }
 }
 
@@ -269,7 +289,11 @@ fn transferred(
 fn transfer_of(load: bool) -> Transfer
     ensures { result ≡ transfer_of load }
 {
-    if load { Transfer::Load } else { Transfer::Store }
+    if load {
+        Transfer::Load
+    } else {
+        Transfer::Store
+    }
 }
 
 /// `NAME L`
@@ -298,7 +322,11 @@ fn compare_row(labels: &Labels<'_>, place: u32, nonzero: bool, text: &[u8]) -> R
 {
     match first_operand(text) {
         None => Err(1),
-        Some((rt, name)) => compared(nonzero, read_register(rt, false), words_to(19, target(labels, place, name))),
+        Some((rt, name)) => compared(
+            nonzero,
+            read_register(rt, false),
+            words_to(19, target(labels, place, name)),
+        ),
     }
 }
 

@@ -156,7 +156,10 @@ fn both(alloc: Global, line: &str) -> Result<String, AllocError> {
 fn check_other(rt: &impl Abort, alloc: Global, row: &str) -> Result<(), AllocError> {
     let said = match row.split_once('|') {
         None => "no row".to_owned(alloc)?,
-        Some((bytes, _)) => format!(in alloc; "{bytes}|{}", listed(alloc, bytes)?.as_str().trim_end())?,
+        Some((bytes, _)) => format!(in alloc;
+            "{bytes}|{}",
+            listed(alloc, bytes)?.as_str().trim_end()
+        )?,
     };
     assert!(rt; said.as_str() == row, "{row}: {said}");
     Ok(())

@@ -1,5 +1,7 @@
 //! What the calls answer, as text.
 
+ghost use Rattle.std.specs.Prelude.{◌<◌};
+
 use a64_asm::{AsmError, ListError, assemble, list};
 use std::alloc::{AllocError, Global};
 
