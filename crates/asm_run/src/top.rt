@@ -84,7 +84,7 @@ fn show<K: Sink>(sink: &mut K, bytes: &[u8]) -> AsmStatus
 }
 
 /// Writes the line of a refusal. That it is cut short changes nothing of the status.
-fn refuse<K: Sink>(sink: &mut K, status: AsmStatus) -> AsmStatus
+pub(crate) fn refuse<K: Sink>(sink: &mut K, status: AsmStatus) -> AsmStatus
     ensures same { result ≡ status }
     ensures put { IsPut (record {
       taken_before = K.taken sink.old;
