@@ -6,7 +6,7 @@ use a64_asm::{AsmError, ListError, assemble, list};
 use std::alloc::{AllocError, Global};
 
 /// The bytes that a source gives, two digits each, or the line and the rule.
-pub fn told(alloc: Global, source: &[u8]) -> Result<String, AllocError> {
+pub(crate) fn told(alloc: Global, source: &[u8]) -> Result<String, AllocError> {
     if source.len() >= 1 << 32 {
         return "too long".to_owned(alloc);
     }
@@ -18,7 +18,7 @@ pub fn told(alloc: Global, source: &[u8]) -> Result<String, AllocError> {
 }
 
 /// How many bytes a source gives, and the first and the last four of them; or the line and the rule.
-pub fn told_ends(alloc: Global, source: &[u8]) -> Result<String, AllocError> {
+pub(crate) fn told_ends(alloc: Global, source: &[u8]) -> Result<String, AllocError> {
     if source.len() >= 1 << 32 {
         return "too long".to_owned(alloc);
     }
@@ -40,7 +40,7 @@ fn ends(alloc: Global, image: &[u8]) -> Result<String, AllocError> {
 }
 
 /// The listing of an image, or its length.
-pub fn told_listing(alloc: Global, image: &[u8]) -> Result<String, AllocError> {
+pub(crate) fn told_listing(alloc: Global, image: &[u8]) -> Result<String, AllocError> {
     if image.len() >= 1 << 32 {
         return "too long".to_owned(alloc);
     }
@@ -55,7 +55,7 @@ pub fn told_listing(alloc: Global, image: &[u8]) -> Result<String, AllocError> {
 }
 
 /// The listing of bytes of two digits each.
-pub fn listed(alloc: Global, digits: &str) -> Result<String, AllocError> {
+pub(crate) fn listed(alloc: Global, digits: &str) -> Result<String, AllocError> {
     let mut image = Vec::new(alloc);
     let mut high = None;
     for digit in digits.bytes() {
@@ -82,7 +82,7 @@ fn value_of(digit: u8) -> u8
 }
 
 /// Two digits for each byte.
-pub fn digits(alloc: Global, bytes: &[u8]) -> Result<String, AllocError> {
+pub(crate) fn digits(alloc: Global, bytes: &[u8]) -> Result<String, AllocError> {
     let mut text = String::new(alloc);
     for byte in bytes {
         let two = format!(in alloc; "{byte:02x}")?;
