@@ -98,7 +98,7 @@ at_place v None h = cc
 at_place v (Some w) h = let same : w ≡ v = grind (arith, nat_tests) in ap Some same
 
 -- what comes of a call asks for nothing that isn't the VM's
-call_lawful : (cfg : ConfigData) (v core esr : ℕ) (g : Guests) (b : Bool)
+pub call_lawful : (cfg : ConfigData) (v core esr : ℕ) (g : Guests) (b : Bool)
     → IsLawful cfg v (powers_of (cores_of (slice_get cfg.vms v)) g.powers)
     (if b then call_of cfg v (powers_of (cores_of (slice_get cfg.vms v)) g.powers) (arguments (core_at g.cores core)) else call.Answer not_supported)
 call_lawful cfg v core esr g true = outcomes_lawful cfg v _ _
