@@ -8,7 +8,7 @@ use std::process::Abort;
 use std::test::Fail;
 
 /// `movz x0, #7` and `b .`
-const SEVEN: [u32; 2] = [0xd280_00e0, 0x1400_0000];
+pub(crate) const SEVEN: [u32; 2] = [0xd280_00e0, 0x1400_0000];
 
 /// `movz x0, #9`, `adr x1, .`, `strb w0, [x1, #64]`, `add x1, x1, #1` and a branch back to the store: it fills its memory.
 const FILLING: [u32; 5] = [
@@ -37,7 +37,7 @@ pub(crate) fn told_of_two(
 }
 
 /// What a run of two VMs leaves, with these images.
-fn told_of(
+pub(crate) fn told_of(
     alloc: Global,
     config: &str,
     words: [&[u32]; 2],
