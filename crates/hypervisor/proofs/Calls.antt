@@ -11,7 +11,7 @@ use Rattle.bao_types.specs.Shape.{ShapeData}
 use Rattle.a64_state.specs.Registers.{reset_core}
 use Rattle.board.specs.Machine.{Machine, begun, core_started}
 use Rattle.bao_config.specs.Bounds.{IsInBounds, interrupt}
-use Rattle.bao_config.specs.Data.{ConfigData, IpcData, VmData}
+use Rattle.bao_config.specs.Data.{ConfigData, VmData}
 use Rattle.bao_config.specs.Fits.{ConfigFits, IpcFits, VmFits}
 use Rattle.bao_wellformed.proofs.Fits.{got_fits}
 use Rattle.bao_wellformed.specs.Map.{owner}

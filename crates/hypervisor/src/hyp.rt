@@ -221,7 +221,14 @@ impl Hyp {
     }
 
     /// Carries out what comes of a call of a core of the VM at a place.
-    fn carry_out<B: Board>(&mut self, config: &Config, board: &mut B, vm: u8, core: u8, outcome: Outcome)
+    fn carry_out<B: Board>(
+        &mut self,
+        config: &Config,
+        board: &mut B,
+        vm: u8,
+        core: u8,
+        outcome: Outcome,
+    )
         requires well_formed { IsWellFormed (config_data config.now) }
         requires tidy { Tidy (config_data config.now) self.old (B.state board.old) }
         requires vm { vm < length (config_data config.now).vms }
@@ -236,7 +243,11 @@ impl Hyp {
             Outcome::Answer(_) => {}
             Outcome::Ring { shmem, event } => self.ring(config, vm, shmem, event),
             Outcome::Off => self.set_power(core, Power::Off),
-            Outcome::On { core: own, start, arg } => self.turn_on(vm_at(config, vm), board, own, start, arg),
+            Outcome::On {
+                core: own,
+                start,
+                arg,
+            } => self.turn_on(vm_at(config, vm), board, own, start, arg),
             Outcome::SystemOff => self.turn_all_off(vm_at(config, vm)),
         }
     }
@@ -373,7 +384,12 @@ fn arguments<B: Board>(board: &B, core: u8) -> [u64; 4]
     requires core { core < length (B.state board.now).shape.cores }
     ensures { result ≡ arguments (core_at (B.state board.now).cores core) }
 {
-    [board.gpr(core, 0), board.gpr(core, 1), board.gpr(core, 2), board.gpr(core, 3)]
+    [
+        board.gpr(core, 0),
+        board.gpr(core, 1),
+        board.gpr(core, 2),
+        board.gpr(core, 3),
+    ]
 }
 
 /// Gives a core that called its answer in X0, and lets it go on behind an SMC. One that the call turned off stays as it is.

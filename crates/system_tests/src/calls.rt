@@ -43,7 +43,10 @@ fn calls(rt: HostRuntime) -> Result<(), Fail> {
 }
 
 /// The sample with a second core for its VM.
-const TWO_CORES: [Change; 2] = [("cores = [16]", "cores = [16, 16]"), ("cores = [0]", "cores = [0, 1]")];
+const TWO_CORES: [Change; 2] = [
+    ("cores = [16]", "cores = [16, 16]"),
+    ("cores = [0]", "cores = [0, 1]"),
+];
 
 /// The first core turns the second on, at 0x100040 with 7 in X0. That adds 1, and turns itself off by SMC. The first core then
 /// asks for it and turns it on again, twice.
@@ -162,7 +165,12 @@ const SECOND: &str = "vm b\ncore 0 on\npc 0000000000140004\npstate 000003c5\nx0 
 
 fn cores_of_two(alloc: Global, words: &[u32]) -> Result<String, Fail> {
     let config = two_vms(alloc)?;
-    let told = told_of(alloc, config.as_str(), [words, &SEVEN], "s 0 0\ns 0 0\ns 0 0\ns 0 0\ns 1 0\n")?;
+    let told = told_of(
+        alloc,
+        config.as_str(),
+        [words, &SEVEN],
+        "s 0 0\ns 0 0\ns 0 0\ns 0 0\ns 1 0\n",
+    )?;
     let (_other, second) = told.split_once("end a\n").unwrap_or(("", ""));
     let (first, second) = (before_consoles(&told), before_consoles(second));
     Ok(format!(in alloc; "{first}{second}")?)
@@ -172,7 +180,9 @@ fn cores_of_two(alloc: Global, words: &[u32]) -> Result<String, Fail> {
 fn a_call_concerns_its_vm(rt: HostRuntime) -> Result<(), Fail> {
     let alloc = rt.alloc();
     for (shows, words, first) in FIRST_OF_TWO.as_slice() {
-        let wanted = format!(in alloc; "status 0 entered 5 calls 4 faults 0\nvm a\n{first}{SECOND}")?;
+        let wanted = format!(in alloc;
+            "status 0 entered 5 calls 4 faults 0\nvm a\n{first}{SECOND}"
+        )?;
         let cores = cores_of_two(alloc, words)?;
         check(&rt, shows, &cores, &wanted);
     }

@@ -1,6 +1,6 @@
 -- What the hypervisor does for a VM, it does for the VM alone; and what it does for another leaves it as it is, but for the events
 -- of shared memories that it hears of.
-use Rattle.std.proofs.Common.{◌≡◌, ◌≢◌, ℕ, zero, suc, ◌<◌, Bool, true, false, List, [], ◌∷◌, length, length-set, map, get_or, refl, sym, ap, subst, ◌∙◌, arith}
+use Rattle.std.proofs.Common.{◌≡◌, ◌≢◌, ℕ, zero, suc, ◌<◌, Bool, true, false, List, [], ◌∷◌, length, length-set, refl, sym, ap, subst, ◌∙◌, arith}
 use Rattle.std.specs.Prelude.{IsTrue, IsFalse, ◌==◌, ◌||◌, ◌&&◌, ◌%◌, ◌^◌, not, if◌then◌else◌, Option, None, Some, slice_get, slice_index, slice_index_or, slice_set, option_and_then, unwrap_or}
 use Rattle.std.specs.List.{list_any}
 use Rattle.std.specs.Option.{option_map_or}
@@ -8,7 +8,6 @@ use Rattle.std.proofs.lemmas.Bool.{eq-eqb}
 use Rattle.std.proofs.lemmas.Bool.Decides.{nat_tests}
 use Rattle.std.proofs.lemmas.List.{get_or-set_other}
 use Rattle.std.proofs.lemmas.Option.{unwrap_or-slice_get}
-use Rattle.a64_state.specs.Core.{CoreData}
 use Rattle.a64_state.specs.Registers.{reset_core}
 use Rattle.exceptions.specs.declared.class.Class.TheVariants.{DataAbortLower}
 use Rattle.bao_config.specs.Data.{ConfigData, VmData, IpcData}
@@ -28,7 +27,7 @@ use Rattle.hypercalls.proofs.Lawful.{outcomes_lawful}
 use Rattle.vm_model.specs.Cores.{affinity_of}
 use Rattle.vm_model.specs.Guests.{Guests, Tables}
 use Rattle.vm_model.specs.Park.{is_abort, is_of_class, is_described, width_of, is_in_frame, parks}
-use Rattle.vm_model.specs.Duty.{Duty, Nothing, Park, Call, NotBuilt, all_off, answered, arguments, call_duty, call_outcome, carried, cores_of, done, duty_of, immediate, is_call, is_not_built, is_smc, pended, place_of, powers_of, ring_of, rung, started, turned_on, with_answer}
+use Rattle.vm_model.specs.Duty.{Park, Call, NotBuilt, all_off, answered, arguments, call_duty, call_outcome, carried, cores_of, done, duty_of, immediate, is_call, is_smc, pended, place_of, powers_of, ring_of, rung, started, turned_on, with_answer}
 use Rattle.vm_model.specs.Lone.{is_place}
 use Rattle.vm_model.proofs.Lists.{set_alike, set_get_alike, set_get_other}
 
@@ -237,7 +236,6 @@ module _ (cfg : ConfigData) (v : ℕ) (vm : VmData) (place : slice_get cfg.vms v
           by_parks true false e = cc
           by_parks false true e = cc
   done_alike core own Unbuilt g h same = same
-
 
 -- the interrupts of the VM alone after another rings an event
 module _ (cfg : ConfigData) (v : ℕ) (vm : VmData) where

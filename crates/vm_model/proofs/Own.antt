@@ -1,5 +1,5 @@
 -- A step of a core of the VM does the same in both.
-use Rattle.std.proofs.Common.{◌≡◌, ℕ, Bool, true, false, List, [], ◌∷◌, length-set, refl, sym, ap, subst, ◌∙◌, inl, inr}
+use Rattle.std.proofs.Common.{◌≡◌, ℕ, Bool, true, false, length-set, refl, sym, ap, subst, ◌∙◌, inl, inr}
 use Rattle.std.specs.Prelude.{IsTrue, ◌&&◌, ◌⊎◌, if◌then◌else◌, Some, is_some, slice_get, slice_set}
 use Rattle.bao_types.specs.declared.access.Access.{Access}
 use Rattle.bao_types.specs.declared.access.Access.TheVariants.{Read, Write, Exec}

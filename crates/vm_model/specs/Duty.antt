@@ -1,6 +1,6 @@
 -- What a step leaves to the hypervisor, and what that makes of the VMs. HVC and SMC are answered as calls of the VM: what
 -- comes of one is a matter of `hypercalls`. An abort that stage 2 makes parks its core.
-use Rattle.std.specs.Prelude.{ℕ, ◌==◌, ◌||◌, not, Bool, true, false, if◌then◌else◌, List, [], ◌∷◌, map, Option, None, Some, slice_get, slice_index, slice_index_or, slice_set}
+use Rattle.std.specs.Prelude.{ℕ, ◌==◌, ◌||◌, Bool, true, false, if◌then◌else◌, List, [], ◌∷◌, map, Option, None, Some, slice_get, slice_index, slice_index_or, slice_set}
 use Rattle.std.specs.List.{position_from}
 use Rattle.bao_types.specs.Bits.{field}
 use Rattle.a64_state.specs.Core.{CoreData}
@@ -11,7 +11,7 @@ use Rattle.bao_config.specs.Data.{ConfigData, VmData}
 use Rattle.bao_wellformed.specs.Map.{has_core, owner}
 use Rattle.board.specs.Attempt.{Outcome, Ran, Leave, Unbuilt}
 use Rattle.board.specs.Machine.{begun, core_at}
-use Rattle.shared_windows.specs.Windows.{irq_of, is_member, lists}
+use Rattle.shared_windows.specs.Windows.{irq_of, is_member}
 use Rattle.hypercalls.specs.Calls.{answer_of, call_of, not_supported}
 use Rattle.hypercalls.specs.declared.outcome.Outcome.TheVariants as call
 use Rattle.hypercalls.specs.declared.outcome.Outcome as calls

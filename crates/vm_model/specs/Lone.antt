@@ -44,7 +44,7 @@ abbrev pub emitted : ConfigData → Flat → ℕ → FlatEvent → List FlatEven
 emitted cfg f v (Step core now) =
     if runs cfg f core
     then as_event (filter (λ store. is_in_window cfg (slice_get cfg.vms v) store.0) (stored cfg f core now))
-        ++ as_ring cfg v (ring_of (flat_duty cfg f core now))
+    ++ as_ring cfg v (ring_of (flat_duty cfg f core now))
     else []
 emitted cfg f v (Input port byte) = []
 emitted cfg f v (Wrote stores) = []

@@ -1,10 +1,10 @@
-use Rattle.std.proofs.Common.{◌≡◌, ◌∙◌, sym, subst}
-use Rattle.std.specs.Prelude.{◌==◌, Some, slice_get}
+use Rattle.std.proofs.Common.{◌∙◌, sym, subst}
+use Rattle.std.specs.Prelude.{◌==◌, slice_get}
 use Rattle.std.proofs.lemmas.Option.{slice_get_within}
 use Rattle.bao_config.specs.Config.{config_data}
 use Rattle.bao_wellformed.specs.Map.{has_core}
 use Rattle.hypercalls.specs.Laws.{IsLawful}
-use Rattle.vm_model.specs.Duty.{cores_of, immediate, place_of, powers_of}
+use Rattle.vm_model.specs.Duty.{cores_of, immediate, powers_of}
 use Rattle.vm_model.proofs.Duties.{call_lawful}
 use Rattle.vm_model.proofs.Lists.{placed_got}
 use Rattle.hypervisor.specs.Taken.{guests_of}

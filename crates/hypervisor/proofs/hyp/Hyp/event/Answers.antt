@@ -1,6 +1,6 @@
 use Rattle.std.proofs.Common.{◌∙◌, subst, ap}
 use Rattle.bao_wellformed.specs.Checked.{checked_data}
-use Rattle.hypervisor.specs.Taken.{Change, IsAfter, is_built}
+use Rattle.hypervisor.specs.Taken.{IsAfter, is_built}
 use Rattle.hypervisor.proofs.Models.{after_tidy, models}
 use Rattle.hypervisor.proofs.hyp.Hyp.event.Goals as goal
 

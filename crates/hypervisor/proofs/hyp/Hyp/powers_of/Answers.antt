@@ -1,4 +1,4 @@
-use Rattle.std.proofs.Common.{◌<◌, length, length-set, ap, ◌∙◌, arith, rules}
+use Rattle.std.proofs.Common.{◌<◌, length-set, ap, ◌∙◌, arith, rules}
 use Rattle.std.specs.Prelude.{unwrap_or}
 use Rattle.hypercalls.specs.declared.power.Power.TheVariants.{Off}
 use Rattle.hypervisor.proofs.Calls.{one_more_power}

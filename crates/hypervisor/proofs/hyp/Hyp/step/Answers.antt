@@ -1,4 +1,3 @@
-use Rattle.std.proofs.Common.{◌<◌, length, subst, sym}
 use Rattle.bao_config.specs.Config.{config_data}
 use Rattle.hypervisor.proofs.Models.{core_on_board}
 use Rattle.hypervisor.proofs.hyp.Hyp.step.Goals as goal

@@ -1,4 +1,4 @@
-use Rattle.std.proofs.Common.{sym, subst}
+use Rattle.std.proofs.Common.{subst}
 use Rattle.bao_config.specs.Config.{config_data}
 use Rattle.hypervisor.specs.Event.{IsOnBoard}
 use Rattle.hypervisor.proofs.Models.{placed_on_board}
