@@ -343,7 +343,11 @@ fn the_example_of_mail(rt: HostRuntime) -> Result<(), Fail> {
     let mut shelf = shelf_of_two(alloc, config.as_bytes(), names, images, &schedule)?;
     let told = told(alloc, &RUN, &mut shelf, &[])?;
     for part in MAIL_REPORT.as_slice() {
-        assert_eq!(rt; told.as_str().contains(*part), true, "{part} isn't in {told}");
+        assert_eq!(rt;
+            told.as_str().contains(*part),
+            true,
+            "{part} isn't in {told}"
+        );
     }
     Ok(())
 }
