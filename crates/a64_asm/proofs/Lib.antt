@@ -1,0 +1,15 @@
+mod Cuts
+mod Numbers
+mod Hex
+mod Offsets
+mod Words
+mod Lines
+mod Labelled
+mod Assembling
+mod Encodable
+mod HasWord
+mod Sayable
+mod LawfulWords
+mod Spelled
+mod Back
+mod Listed

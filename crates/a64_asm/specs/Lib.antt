@@ -1,0 +1,11 @@
+pub mod Text
+pub mod Number
+pub mod Register
+pub mod Mnemonic
+pub mod Listing
+pub mod Labels
+pub mod Operand
+pub mod Reading
+pub mod Source
+pub mod Progress
+pub mod Laws

@@ -1,0 +1,47 @@
+-- Numbers as they are written in a line.
+use Rattle.std.specs.Prelude.{ℕ, zero, suc, ◌+◌, ◌-◌, ◌*◌, ◌/◌, ◌%◌, ◌^◌, ◌==◌, ◌&&◌, ◌||◌, nat_le, nat_lt, ◌<◌, ◌≤◌, ◌⊎◌, not, min, Bool, true, false, if◌then◌else◌, List, [], ◌∷◌, ◌++◌, Option, None, Some, fold, length}
+use Rattle.std.specs.List.{list_all}
+use Rattle.std.specs.Char.{is_ascii_digit}
+use Rattle.std.specs.Fmt.{decimal, digit_glyph}
+
+-- the number that decimal digits are
+abbrev pub value_of : List ℕ → ℕ
+value_of digits = fold (λ value digit. value * 10 + (digit - 48)) 0 digits
+
+-- one byte or more, of which the first is no zero, unless it stands alone
+abbrev pub has_no_leading_zero : List ℕ → Bool
+has_no_leading_zero [] = false
+has_no_leading_zero (digit ∷ []) = true
+has_no_leading_zero (first ∷ second ∷ digits) = not (first == 48)
+
+-- the number that a text is, which has decimal digits without leading zeros. No line form admits one above 2^64 - 1, so
+-- they all count as that one
+unfoldable pub number_of : List ℕ → Option ℕ
+number_of text =
+    if has_no_leading_zero text && list_all is_ascii_digit text then Some (min (value_of text) 0xffffffffffffffff) else None
+
+-- so many hexadecimal digits, in lower case, the last one last
+unfoldable pub hex : ℕ → ℕ → List ℕ
+hex zero number = []
+hex (suc k) number = hex k (number / 16) ++ digit_glyph false (number % 16) ∷ []
+
+-- `0` to `9` and `a` to `f`
+abbrev pub is_hex_digit : ℕ → Bool
+is_hex_digit byte = is_ascii_digit byte || (nat_le 97 byte && nat_le byte 102)
+
+abbrev pub hex_digit_value : ℕ → ℕ
+hex_digit_value byte = if is_ascii_digit byte then byte - 48 else byte - 87
+
+-- the word that eight such digits are
+unfoldable pub hex_word_of : List ℕ → Option ℕ
+hex_word_of text =
+    if (length text == 8) && list_all is_hex_digit text then Some (fold (λ value digit. value * 16 + hex_digit_value digit) 0 text)
+    else None
+
+-- a branch offset counts words, in two's complement of 64 bits; in a line it counts bytes, with a sign, 45, where it is negative
+unfoldable pub offset_text : ℕ → List ℕ
+offset_text offset = if nat_lt offset (2 ^ 63) then decimal (4 * offset) else 45 ∷ decimal (4 * (2 ^ 64 - offset))
+
+-- a number of words whose bytes fit 64 bits
+abbrev pub IsOffset : ℕ → Type 0
+IsOffset offset = (offset < 2 ^ 61) ⊎ ((2 ^ 64 - 2 ^ 61 ≤ offset) × (offset < 2 ^ 64))

@@ -1,0 +1,31 @@
+//! A text, cut at a byte.
+ghost use Rattle.std.specs.Prelude.{◌≡◌, MatchOption};
+ghost use Rattle.a64_asm.specs.Text.{cut_of, operand_of, Whole, Parts};
+
+/// The bytes before the first of these, and those behind it, where there is one.
+pub(crate) fn cut_at(text: &[u8], byte: u8) -> Option<(&[u8], &[u8])>
+    ensures { MatchOption result (cut_of byte text.now ≡ Whole)
+        (λ cut. cut_of byte text.now ≡ Parts cut.0.now cut.1.now) }
+{
+    match text.iter().position(|other| *other == byte) {
+        Some(at) => {
+            let (front, back) = text.split_at(at);
+            let (_byte, behind) = back.split_at(1);
+            Some((front, behind))
+        }
+        None => None,
+    }
+}
+
+/// The first operand, and those behind its comma and blank, where there are more.
+#[tactic(auto, unfolding(crate::specs::Text::operand_of))]
+pub(crate) fn first_operand(text: &[u8]) -> Option<(&[u8], &[u8])>
+    ensures { MatchOption result (operand_of text.now ≡ Whole)
+        (λ cut. operand_of text.now ≡ Parts cut.0.now cut.1.now) }
+{
+    let (front, behind) = cut_at(text, b',')?;
+    match behind.split_first() {
+        Some((b' ', rest)) => Some((front, rest)),
+        _ => None,
+    }
+}
