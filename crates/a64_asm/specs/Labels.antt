@@ -1,4 +1,4 @@
--- The labels of a source, as a map has them.
+-- The labels of a source, as a map has them. No public clause cites this module.
 use Rattle.std.specs.Prelude.{ℕ, List, Option}
 use Rattle.std.specs.Cmp.Lexicographic.{slice_cmp}
 use Rattle.std.specs.Ordering.{nat_cmp}

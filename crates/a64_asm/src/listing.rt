@@ -31,118 +31,50 @@ pub(crate) fn push_word(out: &mut Vec<u8>, word: u32) -> Result<(), AllocError>
 }
 
 /// Appends the line of an instruction that has a form, without its end; false where it has none.
+#[rattlefmt::skip]
 #[tactic(auto, unfolding(crate::specs::Listing::form_of), using(crate::proofs::Offsets::of_26, crate::proofs::Offsets::of_19))]
 fn push_form(out: &mut Vec<u8>, instr: &Instr) -> Result<bool, AllocError>
     requires { IsLawful instr.now }
     ensures { IfOk result (Pushes (form_of instr.now) out.old.items out.new.items) }
 {
     match *instr {
-        Instr::MoveWide {
-            wide,
-            kind,
-            hw,
-            imm16,
-            rd,
-        } => push_move(out, kind, wide, hw, imm16, rd),
-        Instr::AddSubImmediate {
-            wide,
-            subtract,
-            flags,
-            shifted,
-            imm12,
-            rn,
-            rd,
-        } => {
-            if flags || shifted {
-                Ok(false)
-            } else {
-                push_add(out, subtract, wide, imm12, rn, rd)
-            }
+        Instr::MoveWide { wide, kind, hw, imm16, rd } => push_move(out, kind, wide, hw, imm16, rd),
+        Instr::AddSubImmediate { wide, subtract, flags, shifted, imm12, rn, rd } => {
+            if flags || shifted { Ok(false) } else { push_add(out, subtract, wide, imm12, rn, rd) }
         }
-        Instr::AddSubShifted {
-            wide,
-            subtract,
-            flags,
-            shift,
-            rm,
-            amount,
-            rn,
-            rd,
-        } => {
+        Instr::AddSubShifted { wide, subtract, flags, shift, rm, amount, rn, rd } => {
             if !flags && is_unshifted(shift, amount) {
                 push_registers(out, Mnemonic::AddSub { subtract }, wide, rm, rn, rd)
             } else {
                 Ok(false)
             }
         }
-        Instr::LogicalShifted {
-            wide,
-            kind,
-            shift,
-            invert,
-            rm,
-            amount,
-            rn,
-            rd,
-        } => {
+        Instr::LogicalShifted { wide, kind, shift, invert, rm, amount, rn, rd } => {
             if !invert && is_named(kind) && is_unshifted(shift, amount) {
                 push_registers(out, Mnemonic::Logical(kind), wide, rm, rn, rd)
             } else {
                 Ok(false)
             }
         }
-        Instr::LoadStoreUnsigned {
-            size,
-            transfer,
-            imm12,
-            rn,
-            rt,
-        } => push_access(out, size, transfer, imm12, rn, rt),
+        Instr::LoadStoreUnsigned { size, transfer, imm12, rn, rt } => push_access(out, size, transfer, imm12, rn, rt),
         Instr::Branch { link, offset } => push_branch(out, Mnemonic::Branch { link }, offset),
         Instr::BranchConditional { offset, condition } => {
-            if is_condition(condition) {
-                push_branch(out, Mnemonic::BranchIf(condition), offset)
-            } else {
-                Ok(false)
-            }
+            if is_condition(condition) { push_branch(out, Mnemonic::BranchIf(condition), offset) } else { Ok(false) }
         }
-        Instr::CompareBranch {
-            wide,
-            nonzero,
-            offset,
-            rt,
-        } => push_compare(out, nonzero, wide, offset, rt),
+        Instr::CompareBranch { wide, nonzero, offset, rt } => push_compare(out, nonzero, wide, offset, rt),
         Instr::BranchRegister { kind, rn } => push_to_register(out, kind, rn),
         Instr::Exception { kind, imm16 } => push_exception(out, kind, imm16),
         Instr::SystemRegister { read, id, rt } => push_system(out, read, id, rt),
         Instr::ExceptionReturn => push_alone(out, Mnemonic::ExceptionReturn),
         Instr::Hint { crm, op2 } => {
-            if crm == 0 && op2 == 0 {
-                push_alone(out, Mnemonic::Nop)
-            } else {
-                Ok(false)
-            }
+            if crm == 0 && op2 == 0 { push_alone(out, Mnemonic::Nop) } else { Ok(false) }
         }
-        Instr::Address { .. }
-        | Instr::LogicalImmediate { .. }
-        | Instr::Bitfield { .. }
-        | Instr::Extract { .. }
-        | Instr::TestBranch { .. }
-        | Instr::Barrier { .. }
-        | Instr::MsrImmediate { .. }
-        | Instr::System { .. }
-        | Instr::AddSubExtended { .. }
-        | Instr::AddSubCarry { .. }
-        | Instr::ConditionalCompare { .. }
-        | Instr::ConditionalSelect { .. }
-        | Instr::ThreeSources { .. }
-        | Instr::TwoSources { .. }
-        | Instr::OneSource { .. }
-        | Instr::LoadLiteral { .. }
-        | Instr::Pair { .. }
-        | Instr::LoadStoreIndexed { .. }
-        | Instr::LoadStoreRegister { .. }
-        | Instr::Undefined => Ok(false),
+        Instr::Address { .. } | Instr::LogicalImmediate { .. } | Instr::Bitfield { .. } | Instr::Extract { .. }
+        | Instr::TestBranch { .. } | Instr::Barrier { .. } | Instr::MsrImmediate { .. } | Instr::System { .. }
+        | Instr::AddSubExtended { .. } | Instr::AddSubCarry { .. } | Instr::ConditionalCompare { .. }
+        | Instr::ConditionalSelect { .. } | Instr::ThreeSources { .. } | Instr::TwoSources { .. }
+        | Instr::OneSource { .. } | Instr::LoadLiteral { .. } | Instr::Pair { .. } | Instr::LoadStoreIndexed { .. }
+        | Instr::LoadStoreRegister { .. } | Instr::Undefined => Ok(false),
     }
 }
 

@@ -59,11 +59,10 @@ pub(crate) fn listed(alloc: Global, digits: &str) -> Result<String, AllocError> 
     let mut image = Vec::new(alloc);
     let mut high = None;
     for digit in digits.bytes() {
-        let value = value_of(digit);
         match high {
-            None => high = Some(value),
+            None => high = Some(digit),
             Some(first) => {
-                image.push(first * 16 + value)?;
+                image.push(value_of(first) * 16 + value_of(digit))?;
                 high = None;
             }
         }
