@@ -1,4 +1,4 @@
-//! Tests of the assembler and of the listing, over their public calls.
+//! Tests of the assembler and of the listing, over their public calls and over the top call.
 //!
 //! The crate has no other code. Its tests stand apart from the crate that they try, since a crate with tests is proved
 //! twice.
@@ -10,5 +10,7 @@ mod forms;
 mod images;
 #[cfg(test)]
 mod rules;
+#[cfg(test)]
+mod runs;
 #[cfg(test)]
 mod told;

@@ -82,7 +82,7 @@ fn value_of(digit: u8) -> u8
 }
 
 /// Two digits for each byte.
-fn digits(alloc: Global, bytes: &[u8]) -> Result<String, AllocError> {
+pub(crate) fn digits(alloc: Global, bytes: &[u8]) -> Result<String, AllocError> {
     let mut text = String::new(alloc);
     for byte in bytes {
         let two = format!(in alloc; "{byte:02x}")?;

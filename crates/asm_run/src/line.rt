@@ -1,0 +1,70 @@
+//! The lines of refusals.
+ghost use Rattle.std.specs.Prelude.{◌≡◌, ◌+◌, ◌≤◌, ◌++◌, length};
+ghost use Rattle.std.specs.Fmt.{decimal};
+ghost use Rattle.asm_run.specs.Status.{refusal_text, newline};
+ghost use Rattle.asm_run.specs.declared.status.AsmStatus.TheVariants.{BadLine};
+
+use crate::status::AsmStatus;
+use arrayvec::ArrayVec;
+
+/// A line of text that is being built.
+pub(crate) type Line = ArrayVec<u8, 64>;
+
+/// Appends a text.
+fn push_text(line: &mut Line, text: &[u8])
+    requires { length line.old.items + length text.now ≤ 64 }
+    ensures text { line.new.items ≡ line.old.items ++ text.now }
+    ensures len { length line.new.items ≡ length line.old.items + length text.now }
+{
+    let _ = line.try_extend_from_slice(text);
+}
+
+/// Appends a number: at most ten digits.
+fn push_decimal(line: &mut Line, number: u32)
+    requires { length line.old.items ≤ 54 }
+    ensures text { line.new.items ≡ line.old.items ++ decimal number }
+    ensures len { length line.new.items ≤ length line.old.items + 10 }
+{
+    let mut digits = itoa::Buffer::new();
+    push_text(line, digits.format(number).as_bytes());
+}
+
+/// The line of a refusal; the other statuses have none.
+#[tactic(auto, unfolding(crate::specs::Status::refusal_text))]
+pub(crate) fn refusal_line(status: AsmStatus) -> Line
+    ensures { result.items ≡ refusal_text status }
+{
+    let mut line = Line::new();
+    match status {
+        AsmStatus::Done | AsmStatus::WriteFault => {}
+        AsmStatus::Usage => push_text(&mut line, b"usage: asm FILE or list FILE\n"),
+        AsmStatus::ReadFault => push_text(&mut line, b"read fault file\n"),
+        AsmStatus::TooLong { limit } => push_numbered(&mut line, b"too long file limit ", limit),
+        AsmStatus::OutOfMemory => push_text(&mut line, b"out of memory\n"),
+        AsmStatus::BadLine { line: number, rule } => push_bad_line(&mut line, number, rule),
+        AsmStatus::BadLength { len } => push_numbered(&mut line, b"bad length ", len),
+    }
+    line
+}
+
+/// A text, a number and the end of the line.
+fn push_numbered(line: &mut Line, text: &[u8], number: u32)
+    requires { length line.old.items + length text.now ≤ 32 }
+    ensures { line.new.items ≡ line.old.items ++ (text.now ++ (decimal number ++ newline)) }
+{
+    push_text(line, text);
+    push_decimal(line, number);
+    push_text(line, b"\n");
+}
+
+#[tactic(auto, unfolding(crate::specs::Status::refusal_text))]
+fn push_bad_line(line: &mut Line, number: u32, rule: u8)
+    requires { length line.old.items ≡ 0 }
+    ensures { line.new.items ≡ line.old.items ++ refusal_text (BadLine number rule) }
+{
+    push_text(line, b"bad line ");
+    push_decimal(line, number);
+    push_text(line, b" rule ");
+    push_decimal(line, u32::from(rule));
+    push_text(line, b"\n");
+}
