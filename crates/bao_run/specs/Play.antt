@@ -34,7 +34,7 @@ pub record IsRunThrough (m : Machine) (input : InputData) : Type 0 where
   pub packed : ArePacked input.cfg m.entries
   pub entries : m.entries ≡ all_filled input.cfg.platform.cores (packings input.cfg)
   pub entered : m.entered ≡ entered_count input.cfg (booted input) input.events
-  pub state : project (final input).powers m ≡ final input
+  pub state : project (final input).powers (final input).tables m ≡ final input
   pub built : first_halt input ≡ None
 
 -- the board isn't fitted, and its ports' states are as before

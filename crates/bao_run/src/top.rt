@@ -4,7 +4,7 @@ ghost use Rattle.bao_wellformed.specs.Checked.{checked_data};
 ghost use Rattle.report.specs.Status.{is_refusal, refusal_text};
 ghost use Rattle.vm_create.specs.Boot.{ArePlans};
 ghost use Rattle.hypervisor.specs.Shape.{shape_of};
-ghost use Rattle.vm_model.specs.Project.{project};
+ghost use Rattle.hypervisor.specs.Hyp.{stands_for};
 ghost use Rattle.hypervisor.specs.Tidy.{Tidy};
 ghost use Rattle.bao_run.specs.Call.{IsPut};
 ghost use Rattle.bao_run.specs.Input.{CanPlay, input_data};
@@ -163,7 +163,7 @@ fn write_ending<K: Sink, B: Board>(
     requires fitted { (B.state board.now).fitted ≡ true }
     requires cores { length (B.state board.now).shape.cores ≡ length (checked_data checked.now).platform.cores }
     ensures taken { Takes (K.taken sink.old) (K.taken sink.new)
-        (text_of ending (checked_data checked.now) (project hyp.now.powers (B.state board.now))) result }
+        (text_of ending (checked_data checked.now) (stands_for hyp.now (B.state board.now))) result }
     ensures cause { HasCause (K.faults sink.old) (K.faults sink.new) result }
 {
     match ending {
@@ -178,7 +178,7 @@ fn start<B: Board>(alloc: Global, board: &mut B, input: &Input) -> Result<Hyp, O
     requires ports { (B.state board.old).ports ≡ standard_ports }
     requires input { CanPlay input.now }
     ensures tidy { IfOk result (λ hyp. Tidy (input_data input.now).cfg hyp (B.state board.new)) }
-    ensures state { IfOk result (λ hyp. project hyp.powers (B.state board.new) ≡ booted (input_data input.now)) }
+    ensures state { IfOk result (λ hyp. stands_for hyp (B.state board.new) ≡ booted (input_data input.now)) }
     ensures shape { OnOk result ((B.state board.new).shape
         ≡ shape_of (input_data input.now).cfg (length (input_data input.now).events)) }
     ensures counts { OnOk result (((B.state board.new).entered ≡ 0) × ((B.state board.new).spent ≡ 0)) }

@@ -105,11 +105,18 @@ abbrev pub with_entry : Machine → ℕ → ℕ → Region → Machine
 with_entry m core index entry =
     record m { entries = slice_set m.entries core (slice_set (entries_at m.entries core) index entry) }
 
--- the core is reset, and begins at pc with arg in X0
+-- these are the registers of the core
+abbrev pub with_core : Machine → ℕ → CoreData → Machine
+with_core m core registers = record m { cores = slice_set m.cores core registers }
+
+-- a fresh core begins at pc with arg in X0
+abbrev pub begun : CoreData → ℕ → ℕ → CoreData
+begun fresh pc arg = record fresh { x = slice_set fresh.x 0 arg; pc = pc }
+
+-- the core is reset, and begins so
 abbrev pub core_started : ShapeData → ℕ → ℕ → ℕ → CoreData
 core_started shape core pc arg =
-    let fresh = reset_core (slice_index_or shape.cores core (record { entries = 0; affinity = 0 })).affinity
-    in record fresh { x = slice_set fresh.x 0 arg; pc = pc }
+    begun (reset_core (slice_index_or shape.cores core (record { entries = 0; affinity = 0 })).affinity) pc arg
 
 -- what a core reaches, by its EL1 regions and its EL2 entries
 abbrev pub machine_reach : Machine → ℕ → Reach

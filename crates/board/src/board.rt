@@ -1,4 +1,4 @@
-ghost use Rattle.std.specs.Prelude.{◌≡◌, ◌<◌, length, slice_index, slice_index_or, slice_set, OnOk, OnErr, IsTrue, ◌==◌, true, false};
+ghost use Rattle.std.specs.Prelude.{◌≡◌, ◌<◌, length, slice_index, slice_index_or, OnOk, OnErr, IsTrue, ◌==◌, true, false};
 ghost use Rattle.std.specs.List.{list_any};
 ghost use Rattle.bao_types.specs.Shape.{shape_data};
 
@@ -28,8 +28,10 @@ pub enum Exit {
 /// Its ports are those of the standard list: 0 to 7 are consoles, 8 to 11 scratch ports and 12 to 15 tickers. A board is fitted once with its shape. Every call but `fit` and `entered` asks that it is fitted, and a core, entry or
 /// port in a call is one of the shape's.
 pub trait Board {
-    ghost use Rattle.board.specs.Machine.{Machine, IsFittable, fitted_with, over, AreUsed, IsSafeEntry, with_entry, entries_at, core_started, core_at, step_attempt, stepped, exit_of};
+    ghost use Rattle.board.specs.Machine.{Machine, IsFittable, fitted_with, over, AreUsed, IsSafeEntry, with_entry, entries_at, with_core, core_started, core_at, step_attempt, stepped, exit_of};
     ghost use Rattle.board.specs.Machine.{port_given};
+    ghost use Rattle.a64_state.specs.Registers.{with_x, x_of};
+    ghost use Rattle.a64_execute.specs.Branch.{advanced};
     ghost use Rattle.bao_types.specs.Region.{no_region, IsWithinMasks};
     ghost use Rattle.board.specs.Ports.{outputs, port_count, standard_ports};
     ghost use Rattle.board.specs.View.{view_of};
@@ -75,9 +77,27 @@ pub trait Board {
     fn reset_core(&mut self, core: u8, pc: u64, arg: u64)
         requires fitted { (state self.old).fitted ≡ true }
         requires core { core < length (state self.old).shape.cores }
-        ensures { state self.new ≡ record (state self.old) {
-          cores = slice_set (state self.old).cores core (core_started (state self.old).shape core pc arg);
-        } };
+        ensures { state self.new ≡ with_core (state self.old) core (core_started (state self.old).shape core pc arg) };
+
+    /// A general register of a core: X0 to X30 by their numbers.
+    fn gpr(&self, core: u8, n: u8) -> u64
+        requires fitted { (state self.now).fitted ≡ true }
+        requires core { core < length (state self.now).shape.cores }
+        requires register { n < 31 }
+        ensures { result ≡ x_of (core_at (state self.now).cores core) n };
+
+    /// Sets a general register of a core: X0 to X30 by their numbers.
+    fn set_gpr(&mut self, core: u8, n: u8, value: u64)
+        requires fitted { (state self.old).fitted ≡ true }
+        requires core { core < length (state self.old).shape.cores }
+        requires register { n < 31 }
+        ensures { state self.new ≡ with_core (state self.old) core (with_x (core_at (state self.old).cores core) n value) };
+
+    /// Lets a core go on behind the instruction at its PC.
+    fn skip(&mut self, core: u8)
+        requires fitted { (state self.old).fitted ≡ true }
+        requires core { core < length (state self.old).shape.cores }
+        ensures { state self.new ≡ with_core (state self.old) core (advanced (core_at (state self.old).cores core)) };
 
     /// Lets a core take one step, at the system count `now`: an instruction, or the exception that comes in its place.
     fn step(&mut self, core: u8, now: u64) -> Exit

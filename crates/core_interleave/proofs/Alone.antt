@@ -34,5 +34,5 @@ pub ends_as_alone : (cfg : ConfigData) (start end : Flat) (events : List FlatEve
     → All IsOfSchedule events → end ≡ flat_run cfg start events → EndsAsAlone cfg start events end
 ends_as_alone cfg start end events well_formed fits scheduled ran =
     λ images v vm booted rooms is.
-    subst (λ f. Agree cfg vm f (lone cfg images events v)) (sym (ran ∙ ap (λ f. flat_run cfg f events) booted))
+    subst (λ f. Agree cfg v vm f (lone cfg images events v)) (sym (ran ∙ ap (λ f. flat_run cfg f events) booted))
     (runs_as_if_alone cfg images events v vm (well_formed_apart cfg images v vm well_formed fits rooms is) scheduled)

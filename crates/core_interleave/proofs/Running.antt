@@ -4,9 +4,8 @@ use Rattle.std.specs.Prelude.{None, Some, if◌then◌else◌, not}
 use Rattle.bao_config.specs.Data.{ConfigData}
 use Rattle.board.specs.Machine.{Machine}
 use Rattle.vm_model.specs.Flat.{Flat, FlatEvent, flat_step, flat_run, entered_count, is_entered, is_event_unbuilt, first_unbuilt}
-use Rattle.vm_model.specs.Project.{project}
 use Rattle.hypervisor.specs.Event.{flat_event}
-use Rattle.hypervisor.specs.Hyp.{HypData}
+use Rattle.hypervisor.specs.Hyp.{HypData, stands_for}
 use Rattle.hypervisor.specs.Tidy.{Tidy}
 use Rattle.hypervisor.specs.declared.event.Event.{Event}
 use Rattle.core_interleave.proofs.OneMore.{all_taken, entered_count-push, flat_run-push, next_of, none_left, taken_next}
@@ -17,7 +16,7 @@ pub record Place : Type 0 where
   pub machine : Machine
 
 abbrev pub flat_of : Place → Flat
-flat_of place = project place.hyp.powers place.machine
+flat_of place = stands_for place.hyp place.machine
 
 -- these events were taken from the start to here
 pub record IsReached (cfg : ConfigData) (start now : Place) (taken : List FlatEvent) : Type 0 where

@@ -17,4 +17,4 @@ taken_events (Err number) events = take (number + 1) events
 abbrev pub EndsAsAlone : ConfigData → Flat → List FlatEvent → Flat → Type 0
 EndsAsAlone cfg start events end =
     (images : List (List ℕ)) (v : ℕ) (vm : VmData) → start ≡ boot cfg images → FitRooms cfg images
-    → slice_get cfg.vms v ≡ Some vm → Agree cfg vm end (lone cfg images events v)
+    → slice_get cfg.vms v ≡ Some vm → Agree cfg v vm end (lone cfg images events v)

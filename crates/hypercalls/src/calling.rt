@@ -9,9 +9,10 @@ use bao_config::{Config, Vm};
 /// The version of PSCI: 1.0, the major version in bits 31 to 16.
 const VERSION: u64 = 0x1_0000;
 
-/// Errors of PSCI, as 64-bit two's complement: -1, -2 and -4.
-const NOT_SUPPORTED: u64 = u64::MAX;
+/// The answer to a call that asks for nothing that is known: NOT_SUPPORTED of PSCI, -1 as 64-bit two's complement.
+pub const NOT_SUPPORTED: u64 = u64::MAX;
 
+/// Errors of PSCI, as 64-bit two's complement: -2 and -4.
 const INVALID_PARAMETERS: u64 = u64::MAX - 1;
 
 const ALREADY_ON: u64 = u64::MAX - 3;

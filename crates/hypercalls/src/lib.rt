@@ -3,7 +3,7 @@
 //! pending and how a core is reset isn't said here.
 #![tactic(auto)]
 
-pub use calling::call;
+pub use calling::{NOT_SUPPORTED, call};
 pub use law::{a_call_is_its_vms_alone, outcomes_are_lawful};
 pub use outcome::Outcome;
 pub use power::Power;

@@ -3,3 +3,4 @@ pub mod Realises
 pub mod Refines
 pub mod Packs
 pub mod Models
+pub mod Calls

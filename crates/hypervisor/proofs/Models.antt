@@ -1,6 +1,6 @@
 -- What an event does on the machine is what it does in the model.
 use Rattle.std.proofs.Common.{◌≡◌, ℕ, ◌<◌, Bool, true, false, List, [], ◌∷◌, map, length, length-set, refl, sym, subst, ap, ◌∙◌, arith}
-use Rattle.std.specs.Prelude.{IsTrue, if◌then◌else◌, ◌&&◌, ◌||◌, ◌==◌, not, slice_set}
+use Rattle.std.specs.Prelude.{IsTrue, if◌then◌else◌, ◌&&◌, ◌||◌, ◌==◌, not, Option, slice_get, slice_index, slice_set}
 use Rattle.std.specs.List.{enumerate_from, list_any}
 use Rattle.std.proofs.lemmas.Bool.{eqb-true, not-false}
 use Rattle.std.proofs.lemmas.Bool.Decides.{nat_tests}
@@ -16,24 +16,28 @@ use Rattle.bao_wellformed.specs.Rules.{devs_without_port, names_a_port}
 use Rattle.bao_wellformed.specs.WellFormed.{IsWellFormed}
 use Rattle.bao_wellformed.proofs.Empty.{any_got, indexed_got, map_empty, none_in_each, none_passes}
 use Rattle.bao_wellformed.proofs.Kept.{kept}
-use Rattle.board.specs.declared.board.Exit.{Exit}
-use Rattle.board.specs.declared.board.Exit.TheVariants as exits
-use Rattle.board.specs.Machine.{Machine, step_attempt, stepped}
+use Rattle.board.specs.Attempt.{Effect}
+use Rattle.board.specs.Machine.{Machine, step_attempt, stepped, written}
+use Rattle.board.specs.Ports.{all_accessed}
+use Rattle.hypercalls.specs.Calls.{answer_of}
+use Rattle.hypercalls.specs.declared.outcome.Outcome as calls
+use Rattle.hypercalls.specs.declared.outcome.Outcome.TheVariants as call
 use Rattle.hypercalls.specs.declared.power.Power.{Power}
-use Rattle.hypercalls.specs.declared.power.Power.TheVariants.{Parked}
-use Rattle.vm_model.specs.Park.{parks}
-use Rattle.vm_model.specs.Flat.{FlatEvent, Step, runs, flat_attempt, flat_stepped, flat_step, is_outcome_unbuilt, is_event_unbuilt}
+use Rattle.hypercalls.specs.declared.power.Power.TheVariants.{On, Off, Parked}
+use Rattle.vm_model.specs.Duty.{Duty, Nothing, Park, Call, NotBuilt, all_off, carried, cores_of, done, duty_of, is_not_built, with_answer}
+use Rattle.vm_model.specs.Flat.{Flat, FlatEvent, Step, runs, flat_attempt, flat_duty, flat_stepped, flat_step, is_event_unbuilt}
+use Rattle.vm_model.specs.Guests.{Guests, tables_of}
 use Rattle.vm_model.specs.Project.{project}
 use Rattle.hypervisor.specs.Event.{flat_event, is_assigned, IsOnBoard, IsPlaced}
-use Rattle.hypervisor.specs.Hyp.{HypData}
+use Rattle.hypervisor.specs.Hyp.{HypData, stands_for}
 use Rattle.hypervisor.specs.Packed.{ArePacked}
 use Rattle.hypervisor.specs.Shape.{core_place, port_spot, shape_of}
-use Rattle.hypervisor.specs.Taken.{after_event, event_powers, is_built, is_exit_unbuilt, is_step_unbuilt, powers_left, step_exit, taken, taken_powers}
+use Rattle.hypervisor.specs.Taken.{guests_of, is_built, is_exit_unbuilt, ran_guests, step_exit, told_by, with_cores, IsAfter, IsLeft, IsSteppedIf}
 use Rattle.hypervisor.specs.Tidy.{Tidy}
 use Rattle.hypervisor.specs.declared.event.Event.{Event}
 use Rattle.hypervisor.specs.declared.event.Event.TheVariants as event
 use Rattle.hypervisor.proofs.Packs.{are_packed}
-use Rattle.hypervisor.proofs.Refines.{powers_of_exit, steps_alike, unbuilt_of_exit}
+use Rattle.hypervisor.proofs.Refines.{steps_alike, told_back}
 
 -- the board of a configuration has the cores of the platform
 pub core_count : (cfg : ConfigData) (events : ℕ) → length (shape_of cfg events).cores ≡ length cfg.platform.cores
@@ -41,42 +45,94 @@ core_count cfg events =
     length-map (enumerate_from 0 cfg.platform.cores) (λ place. core_place cfg place.0 place.1)
     ∙ length-enumerate_from 0 cfg.platform.cores
 
-module _ (cfg : ConfigData) (hyp : HypData) (m : Machine) (tidy : Tidy cfg hyp m) (well_formed : IsWellFormed cfg)
+-- so a core of the platform is one of the board's
+pub core_on_board : (cfg : ConfigData) (m : Machine) (core : ℕ) → m.shape ≡ shape_of cfg m.shape.events → core < length cfg.platform.cores
+    → core < length m.shape.cores
+core_on_board cfg m core shaped low =
+    let cores : length m.shape.cores ≡ length cfg.platform.cores = ap (λ (s : ShapeData). length s.cores) shaped ∙ core_count cfg m.shape.events in
+    omega (arith, cores, low)
+
+-- what an event left, and what it answered, is what the model's step leaves and answers
+pub record IsModels (cfg : ConfigData) (old new : HypData) (before after : Machine) (e : FlatEvent) (answer : Bool) : Type 0 where
+  pub state : stands_for new after ≡ flat_step cfg (stands_for old before) e
+  pub built : answer ≡ not (is_event_unbuilt cfg (stands_for old before) e)
+
+module _ (cfg : ConfigData) (old : HypData) (before : Machine) (tidy : Tidy cfg old before) (well_formed : IsWellFormed cfg)
     (fits : ConfigFits cfg) where
   -- each core's entries realise its map
-  pub tidy_packed : ArePacked cfg m.entries
+  pub tidy_packed : ArePacked cfg before.entries
   tidy_packed = subst (ArePacked cfg) (sym tidy.entries) (are_packed cfg well_formed fits)
 
-  -- the state that an event leaves, and what it answers
-  pub record IsModels (powers : List Power) (next : Machine) (e : FlatEvent) (answer : Bool) : Type 0 where
-    pub state : project powers next ≡ flat_step cfg (project hyp.powers m) e
-    pub built : answer ≡ not (is_event_unbuilt cfg (project hyp.powers m) e)
-
   module _ (core count : ℕ) (low : core < length cfg.platform.cores) where
-    by_run : (running : Bool) → runs cfg (project hyp.powers m) core ≡ running
-        → IsModels (if running then powers_left cfg core (step_exit m core count) hyp.powers else hyp.powers)
-        (if running then stepped m core count else m) (Step core count)
-        (not (running && is_exit_unbuilt cfg core (step_exit m core count)))
-    by_run true runs_now =
-        let alike = steps_alike cfg m hyp.powers core count (tidy_packed.realised core low) tidy.shape runs_now in
-        let outcome = (step_attempt m core count).outcome in
+    abbrev f : Flat
+    f = stands_for old before
+
+    tried_alike : step_attempt before core count ≡ flat_attempt cfg f core count
+    tried_alike = steps_alike cfg before old.powers (tables_of old.tables) core count (tidy_packed.realised core low) tidy.shape
+
+    -- what the hypervisor works on after a step that did this
+    abbrev worked_on : Effect → Guests
+    worked_on e = record { cores = slice_set before.cores core e.core; powers = old.powers; tables = tables_of old.tables }
+
+    duty_alike : duty_of cfg core (told_by (step_exit before core count)) (guests_of old (stepped before core count)) ≡ flat_duty cfg f core count
+    duty_alike =
+        ap (λ outcome. duty_of cfg core outcome (worked_on (step_attempt before core count))) (told_back (step_attempt before core count).outcome)
+        ∙ ap (λ (e : Effect). duty_of cfg core e.outcome (worked_on e)) tried_alike
+
+    guests_alike : ran_guests cfg old before core count ≡ done cfg core (flat_duty cfg f core count) (worked_on (flat_attempt cfg f core count))
+    guests_alike =
+        ap (λ duty. done cfg core duty (worked_on (step_attempt before core count))) duty_alike
+        ∙ ap (λ (e : Effect). done cfg core (flat_duty cfg f core count) (worked_on e)) tried_alike
+
+    -- the flat machine of what a step left
+    abbrev left_by : Effect → Guests → Flat
+    left_by e guests =
         record {
-          state = ap (λ powers. project powers (stepped m core count)) (powers_of_exit cfg core outcome hyp.powers) ∙ alike.state;
-          built = ap not (unbuilt_of_exit cfg core outcome ∙ alike.unbuilt);
+          bytes = written e.stored before.bytes;
+          cores = guests.cores;
+          powers = guests.powers;
+          tables = guests.tables;
+          ports = all_accessed e.touched before.ports;
+          count = count;
         }
-    by_run false waits = record {
-      state = sym (ap (λ r. if r then flat_stepped cfg (project hyp.powers m) core count else project hyp.powers m) waits);
-      built = sym (ap (λ r. not (r && is_outcome_unbuilt cfg core (flat_attempt cfg (project hyp.powers m) core count).outcome)) waits);
+
+    left_alike : (new : HypData) (after : Machine)
+        → IsLeft old new (stepped before core count) after (ran_guests cfg old before core count)
+        → stands_for new after ≡ flat_stepped cfg f core count
+    left_alike new after left =
+        ap (λ m. project new.powers (tables_of new.tables) m) left.state
+        ∙ ap (λ powers. project powers (tables_of new.tables) (with_cores (stepped before core count) (ran_guests cfg old before core count).cores)) left.powers
+        ∙ ap (λ tables. project (ran_guests cfg old before core count).powers tables
+        (with_cores (stepped before core count) (ran_guests cfg old before core count).cores)) left.tables
+        ∙ ap (left_by (step_attempt before core count)) guests_alike
+        ∙ ap (λ e. left_by e (done cfg core (flat_duty cfg f core count) (worked_on (flat_attempt cfg f core count)))) tried_alike
+
+    by_run : (new : HypData) (after : Machine) (running : Bool) → runs cfg f core ≡ running
+        → IsSteppedIf running cfg (record { old = old; new = new; before = before; after = after }) core count
+        → IsModels cfg old new before after (Step core count)
+        (not (running && is_exit_unbuilt cfg core (step_exit before core count) (guests_of old (stepped before core count))))
+    by_run new after true runs_now left = record {
+      state = left_alike new after left ∙ sym (ap (λ r. if r then flat_stepped cfg f core count else f) runs_now);
+      built =
+          ap (λ duty. not (is_not_built duty)) duty_alike
+          ∙ sym (ap (λ r. not (r && is_not_built (flat_duty cfg f core count))) runs_now);
+    }
+    by_run new after false waits stays = record {
+      state =
+          ap (λ (hyp : HypData). stands_for hyp after) stays.hyp ∙ ap (stands_for old) stays.board
+          ∙ sym (ap (λ r. if r then flat_stepped cfg f core count else f) waits);
+      built = sym (ap (λ r. not (r && is_not_built (flat_duty cfg f core count))) waits);
     }
 
-    after_step : IsModels (taken_powers cfg hyp.powers m core count) (taken cfg hyp.powers m core count) (Step core count)
-        (not (is_step_unbuilt cfg hyp.powers m core count))
-    after_step = by_run (runs cfg (project hyp.powers m) core) refl
-
-  pub models : (e : Event) → IsPlaced cfg e
-      → IsModels (event_powers cfg hyp.powers m e) (after_event cfg hyp.powers m e) (flat_event e) (is_built cfg hyp.powers m e)
-  models (event.Step core count) placed = let low : core < length cfg.platform.cores = grind (arith, nat_tests) in after_step core count low
-  models (event.Input port byte) placed = record { state = refl; built = refl }
+  pub models : (new : HypData) (after : Machine) (e : Event) → IsPlaced cfg e → IsAfter cfg (record { old = old; new = new; before = before; after = after }) e
+      → IsModels cfg old new before after (flat_event e) (is_built cfg old before e)
+  models new after (event.Step core count) placed left =
+      let low : core < length cfg.platform.cores = grind (arith, nat_tests) in
+      by_run core count low new after (runs cfg (stands_for old before) core) refl left
+  models new after (event.Input port byte) placed given = record {
+    state = ap (λ (hyp : HypData). stands_for hyp after) given.hyp ∙ ap (stands_for old) given.board;
+    built = refl;
+  }
 
 -- the numbers of the board's ports are those of the platform's
 numbers_alike : (cfg : ConfigData) (ports : List PortPlace) (number : ℕ)
@@ -110,22 +166,50 @@ placed_on_board cfg shape (event.Input port byte) well_formed shaped placed =
     ap (λ (s : ShapeData). list_any (λ spot. spot.id == port) s.ports) shaped ∙ numbers_alike cfg cfg.platform.ports port
     ∙ given_is_there cfg port well_formed placed
 
--- an event leaves as many powers
-module _ (cfg : ConfigData) (powers : List Power) where
-  exit_length : (core : ℕ) (exit : Exit) → length (powers_left cfg core exit powers) ≡ length powers
-  exit_length core exits.Ran = refl
-  exit_length core (exits.Sync esr far) = by_park (parks cfg core esr far)
-    where
-      by_park : (p : Bool) → length (if p then slice_set powers core (Parked esr far) else powers) ≡ length powers
-      by_park true = length-set powers core (Parked esr far)
-      by_park false = refl
-  exit_length core exits.Unbuilt = refl
+-- so many powers are left by what the hypervisor does
+off_length : (cores : List ℕ) (powers : List Power) → length (all_off cores powers) ≡ length powers
+off_length [] powers = refl
+off_length (core ∷ cores) powers = off_length cores (slice_set powers core Off) ∙ length-set powers core Off
 
-  step_length : (running : Bool) (core : ℕ) (exit : Exit)
-      → length (if running then powers_left cfg core exit powers else powers) ≡ length powers
-  step_length true core exit = exit_length core exit
-  step_length false core exit = refl
+module _ (cfg : ConfigData) (core : ℕ) (guests : Guests) where
+  carried_length : (v : ℕ) (cores : List ℕ) (smc : Bool) (answer : Option ℕ) (outcome : calls.Outcome)
+      → length (carried cfg v cores core outcome (with_answer core smc answer guests)).powers ≡ length guests.powers
+  carried_length v cores smc answer (call.Answer value) = refl
+  carried_length v cores smc answer (call.Ring shmem event) = refl
+  carried_length v cores smc answer call.Off = length-set guests.powers core Off
+  carried_length v cores smc answer (call.On own entry arg) = length-set guests.powers (slice_index cores own) On
+  carried_length v cores smc answer call.SystemOff = off_length cores guests.powers
 
-  pub powers_length : (m : Machine) (e : Event) → length (event_powers cfg powers m e) ≡ length powers
-  powers_length m (event.Step core count) = step_length (runs cfg (project powers m) core) core (step_exit m core count)
-  powers_length m (event.Input port byte) = refl
+  pub done_length : (duty : Duty) → length (done cfg core duty guests).powers ≡ length guests.powers
+  done_length Nothing = refl
+  done_length (Park esr far) = length-set guests.powers core (Parked esr far)
+  done_length (Call v smc outcome) = carried_length v (cores_of (slice_get cfg.vms v)) smc (answer_of outcome) outcome
+  done_length NotBuilt = refl
+
+-- hypervisor and board belong to the configuration after an event
+module _ (cfg : ConfigData) (old new : HypData) (before after : Machine) (tidy : Tidy cfg old before) where
+  stepped_tidy : (core count : ℕ) (running : Bool)
+      → IsSteppedIf running cfg (record { old = old; new = new; before = before; after = after }) core count
+      → Tidy cfg new after
+  stepped_tidy core count true left = record {
+    fitted = ap (λ (m : Machine). m.fitted) left.state ∙ tidy.fitted;
+    shape =
+        ap (λ (m : Machine). m.shape) left.state ∙ tidy.shape
+        ∙ ap (shape_of cfg) (sym (ap (λ (m : Machine). m.shape.events) left.state));
+    entries = ap (λ (m : Machine). m.entries) left.state ∙ tidy.entries;
+    powers =
+        ap (λ (ps : List Power). length ps) left.powers
+        ∙ done_length cfg core (guests_of old (stepped before core count))
+        (duty_of cfg core (told_by (step_exit before core count)) (guests_of old (stepped before core count)))
+        ∙ tidy.powers;
+    tables = left.counts ∙ tidy.tables;
+  }
+  stepped_tidy core count false stays =
+      subst (λ (hyp : HypData). Tidy cfg hyp after) (sym stays.hyp) (subst (Tidy cfg old) (sym stays.board) tidy)
+
+  pub after_tidy : (e : Event) → IsAfter cfg (record { old = old; new = new; before = before; after = after }) e → Tidy cfg new after
+  after_tidy (event.Step core count) left = stepped_tidy core count (runs cfg (stands_for old before) core) left
+  after_tidy (event.Input port byte) given =
+      subst (λ (hyp : HypData). Tidy cfg hyp after) (sym given.hyp)
+      (subst (Tidy cfg old) (sym given.board)
+      (record { fitted = tidy.fitted; shape = tidy.shape; entries = tidy.entries; powers = tidy.powers; tables = tidy.tables }))

@@ -1,5 +1,5 @@
 -- The board that a configuration asks for.
-use Rattle.std.specs.Prelude.{ℕ, ◌^◌, ◌++◌, List, map, sum, Option, None, Some, unwrap_or}
+use Rattle.std.specs.Prelude.{ℕ, ◌^◌, ◌++◌, List, map, sum, Option, None, Some}
 use Rattle.std.specs.List.{enumerate_from, find, flat_map}
 use Rattle.bao_types.specs.declared.range.ByteRange.{ByteRange}
 use Rattle.bao_types.specs.declared.shape.CorePlace.{CorePlace}
@@ -8,12 +8,7 @@ use Rattle.bao_types.specs.Shape.{ShapeData}
 use Rattle.bao_config.specs.declared.config.PortPlace.{PortPlace}
 use Rattle.bao_config.specs.Data.{ConfigData, VmData}
 use Rattle.bao_wellformed.specs.Map.{owner, has_port}
-use Rattle.vm_model.specs.Boot.{virtual_core}
-
--- the number that a core's guest sees as its own: 0 for a core of no VM
-abbrev pub affinity_of : Option VmData → ℕ → ℕ
-affinity_of None core = 0
-affinity_of (Some vm) core = unwrap_or (virtual_core vm core) 0
+use Rattle.vm_model.specs.Cores.{affinity_of}
 
 -- a core of so many entries
 abbrev pub core_place : ConfigData → ℕ → ℕ → CorePlace

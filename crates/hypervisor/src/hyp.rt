@@ -1,33 +1,44 @@
 //! What the hypervisor keeps, and what it does at an event.
-ghost use Rattle.std.specs.Prelude.{◌≡◌, ◌+◌, ◌<◌, ◌≤◌, ◌&&◌, not, true, is_some, length, slice_get, slice_index, slice_set, if◌then◌else◌, Some};
+ghost use Rattle.std.specs.Prelude.{◌≡◌, ◌+◌, ◌<◌, ◌≤◌, ◌&&◌, not, true, is_some, length, slice_get, slice_index, slice_index_or, slice_set, if◌then◌else◌, map, ℕ, Some};
 ghost use Rattle.bao_config.specs.Config.{config_data};
 ghost use Rattle.bao_config.specs.Data.{vm_data};
 ghost use Rattle.bao_wellformed.specs.Checked.{checked_data};
 ghost use Rattle.bao_wellformed.specs.Map.{owner};
+ghost use Rattle.bao_wellformed.specs.WellFormed.{IsWellFormed};
+ghost use Rattle.board.specs.Machine.{core_at, core_started, with_core};
+ghost use Rattle.hypercalls.specs.Laws.{IsLawful};
+ghost use Rattle.shared_windows.specs.Windows.{irq_of, is_member};
+ghost use Rattle.vgic_table.specs.Interrupts.{quiet_interrupts};
+ghost use Rattle.vgic_table.specs.Changes.{made_pending};
 ghost use Rattle.vm_model.specs.Boot.{boot_power, boot_powers};
+ghost use Rattle.vm_model.specs.Duty.{all_off, answered, arguments, call_duty, call_outcome, carried, cores_of, done, pended, place_of, powers_of, rung};
 ghost use Rattle.vm_model.specs.Flat.{flat_step, is_entered, is_event_unbuilt, is_on};
-ghost use Rattle.vm_model.specs.Project.{project};
+ghost use Rattle.vm_model.specs.Guests.{tables_of};
 ghost use Rattle.hypervisor.specs.Event.{flat_event, IsOnBoard, IsPlaced};
-ghost use Rattle.hypervisor.specs.Hyp.{power_of};
-ghost use Rattle.hypervisor.specs.Tidy.{Tidy};
-ghost use Rattle.hypervisor.specs.Taken.{after_event, event_powers, is_built, is_exit_unbuilt, is_step_unbuilt, powers_left, taken, taken_powers};
+ghost use Rattle.hypervisor.specs.Hyp.{boot_tables, power_of, stands_for};
+ghost use Rattle.hypervisor.specs.Tidy.{Tidy, core_counts};
+ghost use Rattle.hypervisor.specs.Taken.{guests_of, is_built, is_exit_unbuilt, is_step_unbuilt, settled, IsAfter, IsLeft, IsStepped};
 ghost use Rattle.vm_model.specs.Park.{parks};
 
 use crate::event::Event;
-use crate::owners::{owner, virtual_core};
-use crate::park::parks;
+use crate::owners::{owner, place, virtual_core, vm_at};
+use crate::park::{immediate, is_call, is_smc, parks};
 use arrayvec::ArrayVec;
 use bao_config::{Config, Vm};
-use bao_wellformed::Checked;
+use bao_wellformed::{Checked, has_core};
 use board::{Board, Exit};
-use hypercalls::Power;
+use hypercalls::{NOT_SUPPORTED, Outcome, Power, call};
+use shared_windows::{irq_of, is_member};
 use std::marker::Model;
+use vgic_table::IrqTable;
 
-/// What the hypervisor keeps besides the board: the power of each virtual core of each VM.
+/// What the hypervisor keeps besides the board: the power of each virtual core and the interrupts of each VM.
 #[derive(Debug, Drop)]
 pub struct Hyp {
     /// By the physical core that the virtual one runs on.
     powers: ArrayVec<Power, 8>,
+    /// By the VM's place.
+    tables: ArrayVec<IrqTable, 8>,
 }
 
 impl Model for Hyp {
@@ -35,17 +46,26 @@ impl Model for Hyp {
 
     ghost Value = { HypData };
 
-    ghost view = { λ hyp. record { powers = hyp.powers.items } };
+    ghost view = { λ hyp. record { powers = hyp.powers.items; tables = hyp.tables.items } };
 }
 
 impl Hyp {
-    /// As at boot: the first core of each VM is on, and no other.
+    /// As at boot: the first core of each VM is on, and no other; no interrupt is enabled or pending.
     pub fn new(checked: &Checked) -> Hyp
-        ensures { result ≡ record { powers = boot_powers (checked_data checked.now) } }
+        ensures { result ≡ record { powers = boot_powers (checked_data checked.now); tables = boot_tables (checked_data checked.now) } }
     {
         Hyp {
             powers: boot_powers(checked),
+            tables: boot_tables(checked.config()),
         }
+    }
+
+    /// The interrupts of the VM at a place.
+    pub fn table(&self, vm: u8) -> &IrqTable
+        requires { vm < length self.now.tables }
+        ensures { Some result.now ≡ slice_get self.now.tables vm }
+    {
+        &self.tables.as_slice()[usize::from(vm)]
     }
 
     /// The power of a virtual core of a VM, which the platform has.
@@ -72,11 +92,11 @@ impl Hyp {
         requires placed { IsPlaced (checked_data checked.now) event.now }
         requires spent { (B.state board.old).spent < (B.state board.old).shape.events }
         ensures tidy { Tidy (checked_data checked.now) self.new (B.state board.new) }
-        ensures state { let f = project self.old.powers (B.state board.old) in
-            project self.new.powers (B.state board.new) ≡ flat_step (checked_data checked.now) f (flat_event event.now) }
-        ensures built { let f = project self.old.powers (B.state board.old) in
+        ensures state { let f = stands_for self.old (B.state board.old) in
+            stands_for self.new (B.state board.new) ≡ flat_step (checked_data checked.now) f (flat_event event.now) }
+        ensures built { let f = stands_for self.old (B.state board.old) in
             result ≡ not (is_event_unbuilt (checked_data checked.now) f (flat_event event.now)) }
-        ensures entered { let f = project self.old.powers (B.state board.old) in
+        ensures entered { let f = stands_for self.old (B.state board.old) in
             (B.state board.new).entered
             ≡ (B.state board.old).entered + (if is_entered (checked_data checked.now) f (flat_event event.now) then 1 else 0) }
         ensures spent { (B.state board.new).spent ≤ (B.state board.old).spent + 1 }
@@ -86,16 +106,15 @@ impl Hyp {
         self.take(checked.config(), board, event)
     }
 
-    /// What an event does on the machine, and to the powers.
+    /// What an event does on the machine, and to what the hypervisor keeps.
     fn take<B: Board>(&mut self, config: &Config, board: &mut B, event: &Event) -> bool
-        requires fitted { (B.state board.old).fitted ≡ true }
-        requires placed { IsOnBoard (B.state board.old).shape event.now }
-        requires cores { length (B.state board.old).shape.cores ≡ length (config_data config.now).platform.cores }
-        requires powers { length self.old.powers ≡ length (config_data config.now).platform.cores }
+        requires well_formed { IsWellFormed (config_data config.now) }
+        requires tidy { Tidy (config_data config.now) self.old (B.state board.old) }
+        requires placed { IsPlaced (config_data config.now) event.now }
         requires spent { (B.state board.old).spent < (B.state board.old).shape.events }
-        ensures state { B.state board.new ≡ after_event (config_data config.now) self.old.powers (B.state board.old) event.now }
-        ensures powers { self.new.powers ≡ event_powers (config_data config.now) self.old.powers (B.state board.old) event.now }
-        ensures built { result ≡ is_built (config_data config.now) self.old.powers (B.state board.old) event.now }
+        ensures after { IsAfter (config_data config.now)
+            (record { old = self.old; new = self.new; before = B.state board.old; after = B.state board.new }) event.now }
+        ensures built { result ≡ is_built (config_data config.now) self.old (B.state board.old) event.now }
     {
         match *event {
             Event::Step { core, count } => self.step(config, board, core, count),
@@ -108,29 +127,36 @@ impl Hyp {
 
     /// Lets a core take a step at a count, if it runs, and answers whether that is built. Any other core does nothing.
     fn step<B: Board>(&mut self, config: &Config, board: &mut B, core: u8, count: u64) -> bool
-        requires fitted { (B.state board.old).fitted ≡ true }
-        requires core { core < length (B.state board.old).shape.cores }
-        requires power { core < length self.old.powers }
+        requires well_formed { IsWellFormed (config_data config.now) }
+        requires tidy { Tidy (config_data config.now) self.old (B.state board.old) }
+        requires core { core < length (config_data config.now).platform.cores }
         requires spent { (B.state board.old).spent < (B.state board.old).shape.events }
-        ensures state { B.state board.new ≡ taken (config_data config.now) self.old.powers (B.state board.old) core count }
-        ensures powers { self.new.powers ≡ taken_powers (config_data config.now) self.old.powers (B.state board.old) core count }
-        ensures built { result ≡ not (is_step_unbuilt (config_data config.now) self.old.powers (B.state board.old) core count) }
+        ensures after { IsStepped (config_data config.now)
+            (record { old = self.old; new = self.new; before = B.state board.old; after = B.state board.new }) core count }
+        ensures built { result ≡ not (is_step_unbuilt (config_data config.now) self.old (B.state board.old) core count) }
     {
         if !self.runs(config, core) {
             return true;
         }
         let exit = board.step(core, count);
-        self.settle(config, core, exit)
+        self.settle(config, board, core, exit)
     }
 
     /// Does what follows how a core's step ended, and answers whether that is built.
-    fn settle(&mut self, config: &Config, core: u8, exit: Exit) -> bool
-        requires { core < length self.old.powers }
-        ensures powers { self.new.powers ≡ powers_left (config_data config.now) core exit self.old.powers }
-        ensures built { result ≡ not (is_exit_unbuilt (config_data config.now) core exit) }
+    fn settle<B: Board>(&mut self, config: &Config, board: &mut B, core: u8, exit: Exit) -> bool
+        requires well_formed { IsWellFormed (config_data config.now) }
+        requires tidy { Tidy (config_data config.now) self.old (B.state board.old) }
+        requires core { core < length (config_data config.now).platform.cores }
+        ensures left { IsLeft self.old self.new (B.state board.old) (B.state board.new)
+            (settled (config_data config.now) core exit (guests_of self.old (B.state board.old))) }
+        ensures built { result ≡ not (is_exit_unbuilt (config_data config.now) core exit (guests_of self.old (B.state board.old))) }
     {
         match exit {
             Exit::Ran => true,
+            Exit::Sync { esr, .. } if is_call(esr) => {
+                self.call(config, board, core, esr);
+                true
+            }
             Exit::Sync { esr, far } => self.park(config, core, esr, far),
             Exit::Unbuilt => false,
         }
@@ -138,16 +164,159 @@ impl Hyp {
 
     /// Parks a core by the exception that went to EL2, if it does that, and answers so. What else it might do isn't built.
     fn park(&mut self, config: &Config, core: u8, esr: u64, far: u64) -> bool
-        requires { core < length self.old.powers }
         ensures powers { self.new.powers ≡ (if parks (config_data config.now) core esr far
             then slice_set self.old.powers core (Power.Parked esr far) else self.old.powers) }
+        ensures tables { self.new.tables ≡ self.old.tables }
         ensures parked { result ≡ parks (config_data config.now) core esr far }
     {
         if !parks(config, core, esr, far) {
             return false;
         }
-        self.powers[usize::from(core)] = Power::Parked { esr, far };
+        self.set_power(core, Power::Parked { esr, far });
         true
+    }
+
+    /// Answers a call of a core, and carries out what comes of it.
+    fn call<B: Board>(&mut self, config: &Config, board: &mut B, core: u8, esr: u64)
+        requires well_formed { IsWellFormed (config_data config.now) }
+        requires tidy { Tidy (config_data config.now) self.old (B.state board.old) }
+        requires core { core < length (config_data config.now).platform.cores }
+        ensures { IsLeft self.old self.new (B.state board.old) (B.state board.new)
+            (done (config_data config.now) core
+            (call_duty (config_data config.now) (place_of (config_data config.now) core) core esr (guests_of self.old (B.state board.old)))
+            (guests_of self.old (B.state board.old))) }
+    {
+        let Some(vm) = place(config, core) else {
+            return;
+        };
+        let outcome = self.outcome(config, board, vm, core, esr);
+        answer(board, core, is_smc(esr), outcome.answer());
+        self.carry_out(config, board, vm, core, outcome);
+    }
+
+    /// What comes of a call of a core of the VM at a place.
+    fn outcome<B: Board>(&self, config: &Config, board: &B, vm: u8, core: u8, esr: u64) -> Outcome
+        requires fitted { (B.state board.now).fitted ≡ true }
+        requires vm { vm < length (config_data config.now).vms }
+        requires core { core < length (B.state board.now).shape.cores }
+        ensures { result ≡ call_outcome (config_data config.now) vm core esr (guests_of self.now (B.state board.now)) }
+    {
+        if immediate(esr) != 0 {
+            return Outcome::Answer(NOT_SUPPORTED);
+        }
+        let own = self.powers_of(vm_at(config, vm));
+        call(config, vm, &own, arguments(board, core))
+    }
+
+    /// The power of each of a VM's virtual cores, by its number.
+    fn powers_of(&self, vm: &Vm) -> [Power; 8]
+        ensures { (core : ℕ) → core < length (vm_data vm.now).cores
+            → slice_get result core ≡ slice_get (powers_of (vm_data vm.now).cores self.now.powers) core }
+    {
+        let mut own = [Power::Off; 8];
+        for (number, core) in vm.cores.as_slice().iter().enumerate() {
+            own[number] = self.power_of_core(*core).unwrap_or(Power::Off);
+        }
+        own
+    }
+
+    /// Carries out what comes of a call of a core of the VM at a place.
+    fn carry_out<B: Board>(
+        &mut self,
+        config: &Config,
+        board: &mut B,
+        vm: u8,
+        core: u8,
+        outcome: Outcome,
+    )
+        requires well_formed { IsWellFormed (config_data config.now) }
+        requires tidy { Tidy (config_data config.now) self.old (B.state board.old) }
+        requires vm { vm < length (config_data config.now).vms }
+        requires core { core < length (config_data config.now).platform.cores }
+        requires lawful { IsLawful (config_data config.now) vm
+            (powers_of (cores_of (slice_get (config_data config.now).vms vm)) self.old.powers) outcome }
+        ensures { IsLeft self.old self.new (B.state board.old) (B.state board.new)
+            (carried (config_data config.now) vm (cores_of (slice_get (config_data config.now).vms vm)) core outcome
+            (guests_of self.old (B.state board.old))) }
+    {
+        match outcome {
+            Outcome::Answer(_) => {}
+            Outcome::Ring { shmem, event } => self.ring(config, vm, shmem, event),
+            Outcome::Off => self.set_power(core, Power::Off),
+            Outcome::On {
+                core: own,
+                start,
+                arg,
+            } => self.turn_on(vm_at(config, vm), board, own, start, arg),
+            Outcome::SystemOff => self.turn_all_off(vm_at(config, vm)),
+        }
+    }
+
+    /// Turns on a virtual core of a VM, which begins at `start` with `arg` in X0.
+    fn turn_on<B: Board>(&mut self, vm: &Vm, board: &mut B, own: u8, start: u64, arg: u64)
+        requires fitted { (B.state board.old).fitted ≡ true }
+        requires own { own < length (vm_data vm.now).cores }
+        requires core { slice_index (vm_data vm.now).cores own < length (B.state board.old).shape.cores }
+        ensures state { let core = slice_index (vm_data vm.now).cores own in
+            B.state board.new ≡ with_core (B.state board.old) core (core_started (B.state board.old).shape core start arg) }
+        ensures powers { self.new.powers ≡ slice_set self.old.powers (slice_index (vm_data vm.now).cores own) Power.On }
+        ensures tables { self.new.tables ≡ self.old.tables }
+    {
+        let core = vm.cores.as_slice()[usize::from(own)];
+        board.reset_core(core, start, arg);
+        self.set_power(core, Power::On);
+    }
+
+    /// Gives a physical core a power, if the platform has it.
+    fn set_power(&mut self, core: u8, power: Power)
+        ensures powers { self.new.powers ≡ slice_set self.old.powers core power }
+        ensures tables { self.new.tables ≡ self.old.tables }
+    {
+        if usize::from(core) < self.powers.len() {
+            self.powers[usize::from(core)] = power;
+        }
+    }
+
+    /// Turns off all cores of a VM.
+    fn turn_all_off(&mut self, vm: &Vm)
+        ensures powers { self.new.powers ≡ all_off (vm_data vm.now).cores self.old.powers }
+        ensures tables { self.new.tables ≡ self.old.tables }
+    {
+        for core in vm.cores.as_slice() {
+            self.set_power(*core, Power::Off);
+        }
+    }
+
+    /// Makes an event of a shared memory pending in each VM that hears of a ring of the caller's.
+    fn ring(&mut self, config: &Config, caller: u8, shmem: u8, event: u8)
+        requires well_formed { IsWellFormed (config_data config.now) }
+        requires counts { core_counts self.old.tables ≡ map (λ vm. length vm.cores) (config_data config.now).vms }
+        requires memory { shmem < length (config_data config.now).shmems }
+        ensures tables { tables_of self.new.tables
+            ≡ rung (config_data config.now) (is_member (config_data config.now) shmem caller) shmem event (tables_of self.old.tables) }
+        ensures counts { core_counts self.new.tables ≡ core_counts self.old.tables }
+        ensures powers { self.new.powers ≡ self.old.powers }
+    {
+        for vm in 0..config.vms.len() as u8 {
+            if is_member(config, shmem, caller, vm) {
+                self.hear(config, vm, shmem, event);
+            }
+        }
+    }
+
+    /// Makes an event of a shared memory pending in the VM at a place.
+    fn hear(&mut self, config: &Config, vm: u8, shmem: u8, event: u8)
+        requires well_formed { IsWellFormed (config_data config.now) }
+        requires counts { core_counts self.old.tables ≡ map (λ vm. length vm.cores) (config_data config.now).vms }
+        requires vm { vm < length (config_data config.now).vms }
+        requires memory { shmem < length (config_data config.now).shmems }
+        ensures tables { self.new.tables ≡ slice_set self.old.tables vm
+            (pended (irq_of (config_data config.now) vm shmem event) (tables_of self.old.tables vm)) }
+        ensures powers { self.new.powers ≡ self.old.powers }
+    {
+        if let Some(irq) = irq_of(config, vm, shmem, event) {
+            pend(&mut self.tables, vm, irq);
+        }
     }
 
     /// Whether a core has a VM and is on.
@@ -186,4 +355,53 @@ fn boot_power(config: &Config, core: u8) -> Power
 {
     let first = owner(config, core).is_some_and(|vm| virtual_core(vm, core) == Some(0));
     if first { Power::On } else { Power::Off }
+}
+
+/// The interrupts of each VM at boot.
+fn boot_tables(config: &Config) -> ArrayVec<IrqTable, 8>
+    ensures { result.items ≡ boot_tables (config_data config.now) }
+{
+    let mut tables = ArrayVec::new();
+    for vm in config.vms.as_slice() {
+        tables.push(IrqTable::new(vm.cores.len() as u8));
+    }
+    tables
+}
+
+/// Makes an interrupt of the VM at a place pending, among the ids of its first core.
+fn pend(tables: &mut ArrayVec<IrqTable, 8>, vm: u8, irq: u16)
+    requires vm { vm < length tables.old.items }
+    requires cores { 0 < (tables_of tables.old.items vm).cores }
+    requires irq { irq < 96 }
+    ensures { tables.new.items ≡ slice_set tables.old.items vm (made_pending (tables_of tables.old.items vm) 0 irq) }
+{
+    tables.as_mut_slice()[usize::from(vm)].pend(0, irq);
+}
+
+/// X0 to X3 of a core.
+fn arguments<B: Board>(board: &B, core: u8) -> [u64; 4]
+    requires fitted { (B.state board.now).fitted ≡ true }
+    requires core { core < length (B.state board.now).shape.cores }
+    ensures { result ≡ arguments (core_at (B.state board.now).cores core) }
+{
+    [
+        board.gpr(core, 0),
+        board.gpr(core, 1),
+        board.gpr(core, 2),
+        board.gpr(core, 3),
+    ]
+}
+
+/// Gives a core that called its answer in X0, and lets it go on behind an SMC. One that the call turned off stays as it is.
+fn answer<B: Board>(board: &mut B, core: u8, smc: bool, answer: Option<u64>)
+    requires fitted { (B.state board.old).fitted ≡ true }
+    requires core { core < length (B.state board.old).shape.cores }
+    ensures { B.state board.new ≡ with_core (B.state board.old) core (answered smc answer (core_at (B.state board.old).cores core)) }
+{
+    if let Some(value) = answer {
+        board.set_gpr(core, 0, value);
+        if smc {
+            board.skip(core);
+        }
+    }
 }

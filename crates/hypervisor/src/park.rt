@@ -3,12 +3,37 @@ ghost use Rattle.std.specs.Prelude.{◌≡◌, ◌<◌, ◌≤◌, ◌^◌, is_s
 ghost use Rattle.bao_config.specs.Config.{config_data};
 ghost use Rattle.bao_wellformed.specs.Map.{owner};
 ghost use Rattle.vgic_emul.specs.Frame.{frame_at};
+ghost use Rattle.vm_model.specs.Duty.{immediate, is_call, is_smc};
 ghost use Rattle.vm_model.specs.Park.{is_abort, is_described, is_emulated, is_in_frame, is_of_class, parks, width_of};
 
 use crate::owners::owner;
 use bao_config::Config;
 use exceptions::Class;
 use vgic_emul::frame;
+
+/// Whether the exception is a call, by HVC or SMC.
+pub(crate) fn is_call(esr: u64) -> bool
+    ensures { result ≡ is_call esr }
+{
+    if is_of_class(Class::Hvc, esr) {
+        return true;
+    }
+    is_smc(esr)
+}
+
+/// Whether it is a call by SMC.
+pub(crate) fn is_smc(esr: u64) -> bool
+    ensures { result ≡ is_smc esr }
+{
+    is_of_class(Class::Smc, esr)
+}
+
+/// The immediate of the instruction that called.
+pub(crate) fn immediate(esr: u64) -> u64
+    ensures { result ≡ immediate esr }
+{
+    esr % (1 << 16)
+}
 
 /// Whether the exception parks the core: it is an abort, and no access that the core's VM has emulated.
 pub(crate) fn parks(config: &Config, core: u8, esr: u64, far: u64) -> bool

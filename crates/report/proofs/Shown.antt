@@ -44,7 +44,7 @@ run_alike f g at (suc n) same =
     (run_alike f g (at + 1) n
     (λ k low. let e : at + 1 + k ≡ at + suc k = omega arith in ap f e ∙ same (suc k) (omega arith) ∙ sym (ap g e)))
 
-module _ (cfg : ConfigData) (vm : VmData) (f g : Flat) (agree : Agree cfg vm f g) (granular : IsGranular cfg vm) where
+module _ (cfg : ConfigData) (v : ℕ) (vm : VmData) (f g : Flat) (agree : Agree cfg v vm f g) (granular : IsGranular cfg vm) where
   core_alike : (j core : ℕ) → IsTrue (has_core core vm) → core_text f j core ≡ core_text g j core
   unfolding core_text
   core_alike j core has =
@@ -107,7 +107,7 @@ pub shows_as_if_alone : ShowsAsIfAlone
 shows_as_if_alone cfg images events v vm apart granular steps =
     let agree = runs_as_if_alone cfg images events v vm apart steps in
     ap (section_of cfg (flat_run cfg (boot cfg images) events)) apart.place
-    ∙ text_alike cfg vm (flat_run cfg (boot cfg images) events) (lone cfg images events v) agree granular
+    ∙ text_alike cfg v vm (flat_run cfg (boot cfg images) events) (lone cfg images events v) agree granular
     ∙ text_same cfg (option_to_list (slice_get cfg.vms v)) vm (lone cfg images events v)
     ∙ sym (ap (λ o. section_of (only cfg v) (lone cfg images events v) (slice_get (option_to_list o) 0)) apart.place)
 

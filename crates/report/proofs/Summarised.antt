@@ -19,7 +19,7 @@ use Rattle.report.specs.Summary.{first_x0, dev_output, joined_output, summary_li
 use Rattle.report.specs.Alone.{SumsAsIfAlone}
 use Rattle.report.proofs.Shown.{in_rest}
 
-module _ (cfg : ConfigData) (vm : VmData) (f g : Flat) (agree : Agree cfg vm f g) where
+module _ (cfg : ConfigData) (v : ℕ) (vm : VmData) (f g : Flat) (agree : Agree cfg v vm f g) where
   first_x0_alike : (cores : List ℕ) → ((c : ℕ) → IsTrue (list_any (λ own. own == c) cores) → IsTrue (has_core c vm))
       → first_x0 f.cores cores ≡ first_x0 g.cores cores
   first_x0_alike [] all = refl
@@ -49,5 +49,5 @@ pub sums_as_if_alone : SumsAsIfAlone
 sums_as_if_alone cfg images events v vm apart steps =
     let agree = runs_as_if_alone cfg images events v vm apart steps in
     ap (summary_of (flat_run cfg (boot cfg images) events)) apart.place
-    ∙ summary_alike cfg vm (flat_run cfg (boot cfg images) events) (lone cfg images events v) agree
+    ∙ summary_alike cfg v vm (flat_run cfg (boot cfg images) events) (lone cfg images events v) agree
     ∙ sym (ap (λ o. summary_of (lone cfg images events v) (slice_get (option_to_list o) 0)) apart.place)

@@ -5,7 +5,7 @@ ghost use Rattle.outside.specs.Sink.{Takes, HasCause};
 ghost use Rattle.bao_config.specs.Data.{vm_data};
 ghost use Rattle.bao_wellformed.specs.Checked.{checked_data};
 ghost use Rattle.board.specs.Ports.{outputs};
-ghost use Rattle.vm_model.specs.Project.{project};
+ghost use Rattle.hypervisor.specs.Hyp.{stands_for};
 ghost use Rattle.report.specs.Summary.{summary, vm_summary, summary_line, summary_head, summary_counts, first_x0, dev_output, joined_output, checksum};
 
 use crate::line::{Line, push_hex, push_long_decimal, push_text};
@@ -37,7 +37,7 @@ pub fn write_summary<K: Sink, B: Board>(
     requires fitted { (B.state board.now).fitted ≡ true }
     requires cores { length (B.state board.now).shape.cores ≡ length (checked_data checked.now).platform.cores }
     ensures taken { Takes (K.taken sink.old) (K.taken sink.new)
-        (summary (checked_data checked.now) (project hyp.now.powers (B.state board.now))) result }
+        (summary (checked_data checked.now) (stands_for hyp.now (B.state board.now))) result }
     ensures cause { HasCause (K.faults sink.old) (K.faults sink.new) result }
 {
     write_vms(sink, board, checked)?;

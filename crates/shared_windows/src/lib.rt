@@ -4,7 +4,7 @@
 #![tactic(auto)]
 
 pub use law::laws_of_windows;
-pub use windows::{irq_of, members};
+pub use windows::{irq_of, is_member, members};
 
 mod law;
 mod windows;

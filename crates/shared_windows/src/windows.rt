@@ -24,8 +24,9 @@ pub fn members(config: &Config, shmem: u8, caller: u8) -> u8
     mask
 }
 
-/// Whether a VM that isn't the caller has a window on the shared memory.
-fn is_member(config: &Config, shmem: u8, caller: u8, v: u8) -> bool
+/// Whether the VM at a place hears of a ring of the caller's, by its place, on a shared memory: it isn't the caller, and has a
+/// window on the memory.
+pub fn is_member(config: &Config, shmem: u8, caller: u8, v: u8) -> bool
     ensures { result ≡ is_member (config_data config.now) shmem caller v }
 {
     v != caller && lists(config, v, shmem)

@@ -191,6 +191,19 @@ impl Board for SimBoard {
         self.cores[usize::from(core)] = fresh;
     }
 
+    fn gpr(&self, core: u8, n: u8) -> u64 {
+        self.cores[usize::from(core)].read_x(n)
+    }
+
+    fn set_gpr(&mut self, core: u8, n: u8, value: u64) {
+        self.cores[usize::from(core)].write_x(n, value);
+    }
+
+    fn skip(&mut self, core: u8) {
+        let core = &mut self.cores[usize::from(core)];
+        core.pc = core.pc.wrapping_add(4);
+    }
+
     fn step(&mut self, core: u8, now: u64) -> Exit {
         let Some(memory) = &mut self.memory else {
             unreachable!()

@@ -1,8 +1,8 @@
 //! Guests that drive device ports, input bytes, and generated workloads, by the whole program.
 
 use crate::runs::{FOREVER, RUN, check, image_of, shelf_of, steps, told};
-use crate::samples::{Change, DEVS, ONE_VM, REGIONS, changed};
-use crate::several::told_of_two;
+use crate::samples::{Change, DEVS, ONE_VM, REGIONS, changed, two_vms};
+use crate::several::{told_of, told_of_two};
 use outside::MemShelf;
 use std::alloc::Global;
 use std::process::Abort;
@@ -150,6 +150,9 @@ fn check_talk(rt: &impl Abort, alloc: Global, schedule: &str) -> Result<(), Fail
     let words = [TALKING[0].as_slice(), TALKING[1].as_slice()];
     let told = told_of_two(alloc, &[], words, schedule)?;
     check(rt, schedule, &told, TALKED);
+    let sharing = two_vms(alloc)?;
+    let told = told_of(alloc, &sharing, words, schedule)?;
+    check(rt, "with a window that nobody writes", &told, TALKED);
     Ok(())
 }
 

@@ -6,6 +6,8 @@ pub use worked_rows::{parked_row, rows, storing_rows};
 #[cfg(test)]
 mod answers;
 #[cfg(test)]
+mod calls;
+#[cfg(test)]
 mod checks;
 #[cfg(test)]
 mod devices;

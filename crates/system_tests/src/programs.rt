@@ -156,11 +156,9 @@ fn loads_and_stores(rt: HostRuntime) -> Result<(), Fail> {
 }
 
 #[rattlefmt::skip]
-static NOT_BUILT: [(&str, &[u32], u32, u32); 8] = [
+static NOT_BUILT: [(&str, &[u32], u32, u32); 6] = [
     // shows                           words                                 steps event
-    ("hvc",                            &[0xd400_0002],                           1, 0),
-    ("smc",                            &[0xd400_0003],                           1, 0),
-    ("the second word",                &[0xd280_00a0, 0xd400_0002],              2, 1),
+    ("the second word",                &[0xd280_00a0, 0xd538_4600],              2, 1),
     ("mrs of icc_pmr_el1",             &[0xd538_4600],                           1, 0),
     ("msr of icc_sgi1r_el1",           &[0xd518_cba0],                           1, 0),
     ("msr of cntv_ctl_el0",            &[0xd51b_e320],                           1, 0),

@@ -50,7 +50,7 @@ static OVER_AN_EDGE: [Program; 12] = [
 /// A misaligned access, with SCTLR_EL1 as the first words set it: bit 1 checks the start, bit 3 checks SP at EL1 and bit 4
 /// at EL0.
 #[rattlefmt::skip]
-static MISALIGNED: [Program; 9] = [
+static MISALIGNED: [Program; 11] = [
     // shows                        words                                                           steps  lines of the report
     ("a load at a port",            &[0xd2b3_8121, 0xb840_2020],                                        2, ["esr_el1 0000000096000021", "far_el1 000000009c090002"]),
     ("a load, checked",             &[0xd280_0044, 0xd518_1004, 0xd288_0025, 0xf2a0_0205, 0xf940_00a0], 5, ["esr_el1 0000000096000021", "far_el1 0000000000104001"]),
@@ -62,6 +62,11 @@ static MISALIGNED: [Program; 9] = [
     ("sp, checked",                 &[0xd280_0104, 0xd518_1004, 0xd288_0105, 0x9100_00bf, 0xf940_03e0], 5, ["esr_el1 000000009a000000", "elr_el1 0000000000100010"]),
     ("sp, checked at EL0 alone",    &[0xd280_0204, 0xd518_1004, 0xd288_0105, 0xf2a0_0205, 0x9100_00bf, 0xf940_03e0],
                                                                                                         6, ["pc 0000000000100018", ""]),
+    // msr sp_el0; adr x8, #12; msr elr_el1; eret; and at EL0 the load
+    ("sp at EL0, checked",          &[0xd280_0204, 0xd518_1004, 0xd288_0105, 0xf2a0_0205, 0xd518_4105, 0x1000_0068, 0xd518_4028, 0xd69f_03e0, 0xf940_03e0],
+                                                                                                        9, ["esr_el1 000000009a000000", "elr_el1 0000000000100020"]),
+    ("sp at EL0, checked at EL1",   &[0xd280_0104, 0xd518_1004, 0xd288_0105, 0xf2a0_0205, 0xd518_4105, 0x1000_0068, 0xd518_4028, 0xd69f_03e0, 0xf940_03e0],
+                                                                                                        9, ["pc 0000000000100024", "pstate 00000000"]),
 ];
 
 /// A region from 0x104000 to 0x104fff, whose base register the word in front sets the low half of, for X1; then M and BR of
@@ -76,10 +81,11 @@ const REGION: [u32; 10] = [
 type Access = (&'static str, u32, &'static [u32], [&'static str; 2]);
 
 #[rattlefmt::skip]
-static AT_EL1: [Access; 12] = [
+static AT_EL1: [Access; 13] = [
     // shows                 movz x1      words                       lines of the report
     ("AP 00, a load",        0xd288_0001, &[0xf940_00a0],              ["pc 0000000000100030", "core 0 on"]),
     ("AP 00, a store",       0xd288_0001, &[0xf900_00a0],              ["pc 0000000000100030", "core 0 on"]),
+    ("AP 01, a load",        0xd288_0081, &[0xf940_00a0],              ["pc 0000000000100030", "core 0 on"]),
     ("AP 01, a store",       0xd288_0081, &[0xf900_00a0],              ["pc 0000000000100030", "core 0 on"]),
     ("AP 10, a load",        0xd288_0101, &[0xf940_00a0],              ["pc 0000000000100030", "core 0 on"]),
     ("AP 10, a store",       0xd288_0101, &[0xf900_00a0],              ["esr_el1 000000009600004c", "far_el1 0000000000104000"]),
@@ -126,13 +132,23 @@ static OVERLAPS: [Access; 14] = [
 
 /// A store over a border between what one stage refuses and what the other does: the first refused byte decides.
 #[rattlefmt::skip]
-static BOTH_STAGES: [Program; 2] = [
+static BOTH_STAGES: [Program; 4] = [
     ("the second refuses first", &[0xd280_0181, 0xf2a0_0201, 0xd281_f822, 0xf2a0_0202, 0xd518_6801, 0xd518_6822,
         0xd280_0024, 0xf2a0_0044, 0xd518_1004, 0xd29f_ff85, 0xf2a0_01e5, 0xf900_00a0],
         12, ["core 0 parked 93c08044 00000000000ffffc", ""]),
     ("the first refuses first", &[0xd29e_0101, 0xf2a0_0201, 0xd29f_f822, 0xf2a0_0202, 0xd518_6801, 0xd518_6822,
         0xd280_0024, 0xf2a0_0044, 0xd518_1004, 0xd29f_ff85, 0xf2a0_0205, 0xf900_00a0],
         12, ["esr_el1 000000009600004c", "far_el1 000000000010fffc"]),
+    // Two regions over 64 bytes at an end of the memory, so that the first stage refuses a load too; the program goes on behind
+    // those at the begin.
+    ("the second refuses a load first", &[0x1400_0010, 0, 0, 0, 0, 0, 0, 0, 0, 0, 0, 0, 0, 0, 0, 0, 0xd280_0081, 0xf2a0_0201,
+        0xd280_0022, 0xf2a0_0202, 0xd518_6801, 0xd518_6822, 0xd280_0023, 0xd518_6223, 0xd518_6801, 0xd518_6822,
+        0xd280_0024, 0xf2a0_0044, 0xd518_1004, 0xd29f_ff85, 0xf2a0_01e5, 0xf940_00a0],
+        17, ["core 0 parked 93c08004 00000000000ffffc", ""]),
+    ("the first refuses a load first", &[0xd29f_f881, 0xf2a0_0201,
+        0xd29f_f822, 0xf2a0_0202, 0xd518_6801, 0xd518_6822, 0xd280_0023, 0xd518_6223, 0xd518_6801, 0xd518_6822,
+        0xd280_0024, 0xf2a0_0044, 0xd518_1004, 0xd29f_ff85, 0xf2a0_0205, 0xf940_00a0],
+        16, ["esr_el1 0000000096000004", "far_el1 000000000010fffc"]),
 ];
 
 /// Behind the words of X1 and [`REGION`] but the last two: a region over the program with AP 11, and at EL0 an access to X5.
@@ -144,11 +160,14 @@ const TO_EL0: [u32; 11] = [
 
 /// At EL0: what a row shows, `movz x1` of the low half, and the access behind [`TO_EL0`].
 #[rattlefmt::skip]
-static AT_EL0: [Access; 8] = [
+static AT_EL0: [Access; 11] = [
     // shows               movz x1      access          lines of the report
     ("AP 00, a load",      0xd288_0001, &[0xf940_00a0], ["esr_el1 000000009200000c", "far_el1 0000000000104000"]),
+    ("AP 00, a store",     0xd288_0001, &[0xf900_00a0], ["esr_el1 000000009200004c", "far_el1 0000000000104000"]),
+    ("AP 01, a load",      0xd288_0081, &[0xf940_00a0], ["pc 000000000010005c", "pstate 00000000"]),
     ("AP 01, a store",     0xd288_0081, &[0xf900_00a0], ["pc 000000000010005c", "pstate 00000000"]),
     ("AP 10, a load",      0xd288_0101, &[0xf940_00a0], ["esr_el1 000000009200000c", "pc 0000000000000400"]),
+    ("AP 10, a store",     0xd288_0101, &[0xf900_00a0], ["esr_el1 000000009200004c", "pc 0000000000000400"]),
     ("AP 11, a load",      0xd288_0181, &[0xf940_00a0], ["pc 000000000010005c", "pstate 00000000"]),
     ("AP 11, a store",     0xd288_0181, &[0xf900_00a0], ["esr_el1 000000009200004c", "far_el1 0000000000104000"]),
     ("no background",      0xd288_0081, &[0xf954_00a0], ["esr_el1 0000000092000004", "far_el1 0000000000106800"]),

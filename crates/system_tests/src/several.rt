@@ -8,7 +8,7 @@ use std::process::Abort;
 use std::test::Fail;
 
 /// `movz x0, #7` and `b .`
-const SEVEN: [u32; 2] = [0xd280_00e0, 0x1400_0000];
+pub(crate) const SEVEN: [u32; 2] = [0xd280_00e0, 0x1400_0000];
 
 /// `movz x0, #9`, `adr x1, .`, `strb w0, [x1, #64]`, `add x1, x1, #1` and a branch back to the store: it fills its memory.
 const FILLING: [u32; 5] = [
@@ -37,7 +37,7 @@ pub(crate) fn told_of_two(
 }
 
 /// What a run of two VMs leaves, with these images.
-fn told_of(
+pub(crate) fn told_of(
     alloc: Global,
     config: &str,
     words: [&[u32]; 2],
@@ -368,9 +368,14 @@ end vm{v}
     )?)
 }
 
-/// A shelf with a configuration of eight VMs, of which each has the image `FIVE`, and a schedule.
-fn shelf_of_eight(alloc: Global, config: &str, schedule: &str) -> Result<MemShelf, Fail> {
-    let five = image_of(alloc, &FIVE)?;
+/// A shelf with a configuration of eight VMs, of which each has an image of these words, and a schedule.
+fn shelf_of_eight(
+    alloc: Global,
+    config: &str,
+    words: &[u32],
+    schedule: &str,
+) -> Result<MemShelf, Fail> {
+    let image = image_of(alloc, words)?;
     let names = vec![in alloc;
         String::from_str(alloc, "config.toml")?,
         String::from_str(alloc, "schedule.txt")?,
@@ -386,14 +391,14 @@ fn shelf_of_eight(alloc: Global, config: &str, schedule: &str) -> Result<MemShel
     let contents = vec![in alloc;
         config.as_bytes().to_vec(alloc)?,
         schedule.as_bytes().to_vec(alloc)?,
-        five.as_slice().to_vec(alloc)?,
-        five.as_slice().to_vec(alloc)?,
-        five.as_slice().to_vec(alloc)?,
-        five.as_slice().to_vec(alloc)?,
-        five.as_slice().to_vec(alloc)?,
-        five.as_slice().to_vec(alloc)?,
-        five.as_slice().to_vec(alloc)?,
-        five,
+        image.as_slice().to_vec(alloc)?,
+        image.as_slice().to_vec(alloc)?,
+        image.as_slice().to_vec(alloc)?,
+        image.as_slice().to_vec(alloc)?,
+        image.as_slice().to_vec(alloc)?,
+        image.as_slice().to_vec(alloc)?,
+        image.as_slice().to_vec(alloc)?,
+        image,
     ]?;
     Ok(MemShelf::new(alloc, names, contents, Vec::new(alloc)))
 }
@@ -410,10 +415,65 @@ fn eight_vms(rt: HostRuntime) -> Result<(), Fail> {
         schedule.push_str(&format!(in alloc; "s {v} 0\n")?)?;
     }
     wanted.push_str("done\n")?;
-    let mut shelf = shelf_of_eight(alloc, &config, &schedule)?;
+    let mut shelf = shelf_of_eight(alloc, &config, &FIVE, &schedule)?;
     check(
         &rt,
         "eight VMs",
+        &told(alloc, &RUN, &mut shelf, &[])?,
+        &wanted,
+    );
+    Ok(())
+}
+
+/// One shared memory for all eight VMs, whose cores have an entry more for it.
+const SHARED_BY_ALL: Change = (
+    "cores = [3, 3, 3, 3, 3, 3, 3, 3]\n",
+    "cores = [4, 4, 4, 4, 4, 4, 4, 4]\n",
+);
+
+const MEMORY: &str = "[[shmem]]\nbase = 0x190000\nsize = 0x1000\nevents = 1\n";
+
+const WINDOW: &str = "ipcs = [{ shmem = 0, access = \"rw\", irqs = [50] }]\n";
+
+/// `movz` and `movk x0, #0xc6000001`, `hvc #0`, `movz x1, #0x19, lsl #16`, `movz w0, #7` and `strb w0, [x1]`: it rings the event
+/// and stores to the window.
+#[rattlefmt::skip]
+const RINGING: [u32; 6] = [0xd280_0020, 0xf2b8_c000, 0xd400_0002, 0xd2a0_0321, 0x5280_00e0, 0x3900_0020];
+
+/// What a VM of this number shows after the first has rung and stored.
+fn sharing_section(alloc: Global, v: u32) -> Result<String, Fail> {
+    let first = "pc 0000000000100018\npstate 000003c5\nx0 0000000000000007\nx1 0000000000190000\n";
+    let waiting = format!(in alloc; "pc 00000000001{v}0000\npstate 000003c5\n")?;
+    let registers = if v == 0 { first } else { &waiting };
+    Ok(format!(in alloc;
+        "vm vm{v}
+core 0 on
+{registers}console {v}=
+m 00000000001{v}0000 200080d200c0b8f2020000d42103a0d2
+m 00000000001{v}0010 e0008052200000390000000000000000
+m 0000000000190000 07000000000000000000000000000000
+end vm{v}
+"
+    )?)
+}
+
+#[test]
+fn eight_vms_on_one_memory(rt: HostRuntime) -> Result<(), Fail> {
+    let alloc = rt.alloc();
+    let mut config = changed(alloc, EIGHT, &[SHARED_BY_ALL])?;
+    config.push_str(MEMORY)?;
+    let mut wanted = String::from_str(alloc, "status 0 entered 6 calls 10 faults 0\n")?;
+    for v in 0..8u32 {
+        config.push_str(&vm_table(alloc, v)?)?;
+        config.push_str(WINDOW)?;
+        wanted.push_str(&sharing_section(alloc, v)?)?;
+    }
+    wanted.push_str("done\n")?;
+    let schedule = "s 0 0\ns 0 0\ns 0 0\ns 0 0\ns 0 0\ns 0 0\n";
+    let mut shelf = shelf_of_eight(alloc, &config, &RINGING, schedule)?;
+    check(
+        &rt,
+        "eight VMs on one memory",
         &told(alloc, &RUN, &mut shelf, &[])?,
         &wanted,
     );

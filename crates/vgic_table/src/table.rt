@@ -73,6 +73,13 @@ fn place(core: u8, id: u16) -> usize
     }
 }
 
+impl Default for IrqTable {
+    /// The interrupts of a VM without a core.
+    fn default() -> Self {
+        IrqTable::new(0)
+    }
+}
+
 impl IrqTable {
     ghost use Rattle.std.specs.Prelude.{◌≡◌, ◌<◌, ◌≤◌, ◌%◌};
     ghost use Rattle.vgic_table.specs.Interrupts.{belongs, best, quiet_interrupts, rank_at, state_of};

@@ -9,9 +9,10 @@ use Rattle.bao_config.specs.Data.{ConfigData, VmData}
 use Rattle.bao_wellformed.specs.Map.{owner}
 use Rattle.bao_wellformed.proofs.Empty.{indexed_got, map_got}
 use Rattle.board.specs.Machine.{Machine, core_started}
-use Rattle.vm_model.specs.Boot.{boot_core, boot_cores, core_of_vm, virtual_core}
+use Rattle.vm_model.specs.Boot.{boot_core, boot_cores, core_of_vm}
+use Rattle.vm_model.specs.Cores.{affinity_of, virtual_core}
 use Rattle.vm_create.specs.Boot.{start_of, start_of_vm}
-use Rattle.hypervisor.specs.Shape.{affinity_of, core_place, shape_of}
+use Rattle.hypervisor.specs.Shape.{core_place, shape_of}
 use Rattle.vm_create.proofs.Filled.{length_places}
 use Rattle.vm_create.proofs.Mixed.{mixed, mixed_same, mixed_set}
 

@@ -7,7 +7,8 @@ use Rattle.board.specs.Machine.{Machine, fitted_with}
 use Rattle.mpu_packer.specs.declared.entries.Plan.{Plan}
 use Rattle.mpu_packer.specs.Packing.{Realises}
 use Rattle.mpu_packer.specs.Plan.{IsPacking}
-use Rattle.vm_model.specs.Boot.{boot_bytes, boot_cores, virtual_core}
+use Rattle.vm_model.specs.Boot.{boot_bytes, boot_cores}
+use Rattle.vm_model.specs.Cores.{virtual_core}
 use Rattle.hypervisor.specs.Shape.{shape_of}
 use Rattle.hypervisor.specs.Packed.{all_filled}
 

@@ -5,7 +5,7 @@ ghost use Rattle.bao_wellformed.specs.Map.{owner};
 ghost use Rattle.board.specs.Machine.{entries_at, fitted_with};
 ghost use Rattle.vm_model.specs.Apart.{FitRooms};
 ghost use Rattle.vm_model.specs.Boot.{boot, boot_bytes, boot_cores};
-ghost use Rattle.vm_model.specs.Project.{project};
+ghost use Rattle.hypervisor.specs.Hyp.{stands_for};
 ghost use Rattle.hypervisor.specs.Packed.{all_filled, filled};
 ghost use Rattle.hypervisor.specs.Shape.{shape_of};
 ghost use Rattle.hypervisor.specs.Tidy.{Tidy};
@@ -26,7 +26,7 @@ pub fn boot<B: Board>(board: &mut B, checked: &Checked, plans: &[Plan], images: 
     requires images { FitRooms (checked_data checked.now) (map (λ image. image.items) images.now) }
     ensures tidy { Tidy (checked_data checked.now) result (B.state board.new) }
     ensures state { let model = boot (checked_data checked.now) (map (λ image. image.items) images.now) in
-        project result.powers (B.state board.new) ≡ record model { ports = (B.state board.old).ports } }
+        stands_for result (B.state board.new) ≡ record model { ports = (B.state board.old).ports } }
     ensures entered { (B.state board.new).entered ≡ 0 }
     ensures board { B.state board.new
         ≡ booted (checked_data checked.now) (packings_of plans.now) (map (λ image. image.items) images.now) (B.state board.old) }

@@ -6,7 +6,8 @@ ghost use Rattle.bao_config.specs.Data.{vm_data};
 ghost use Rattle.bao_wellformed.specs.Checked.{checked_data};
 ghost use Rattle.bao_wellformed.specs.Map.{has_port, owner};
 ghost use Rattle.board.specs.Machine.{IsFittable};
-ghost use Rattle.hypervisor.specs.Shape.{affinity_of, core_mask, core_place, port_spot, shape_of, used_ranges};
+ghost use Rattle.vm_model.specs.Cores.{affinity_of};
+ghost use Rattle.hypervisor.specs.Shape.{core_mask, core_place, port_spot, shape_of, used_ranges};
 
 use arrayvec::ArrayVec;
 use bao_config::{Config, MapRegion, Shmem, Vm};

@@ -172,6 +172,43 @@ not_b core stranger c false e one = refl
 not_b core stranger true true e one = absurd (grind (arith, nat_tests))
 not_b core stranger false true e one = let x : true ≡ false = rw (e, one) at stranger in cc
 
+-- and no core is in both lists
+never_both : (core : ℕ) (c d : Bool) → (0 == core) ≡ c → (1 == core) ≡ d → IsTrue d → IsFalse c
+never_both core true true e one has = absurd (grind (arith, nat_tests))
+never_both core false d e one has = refl
+never_both core true false e one has = cc
+
+never_both_ways : (core : ℕ) (c d : Bool) → (0 == core) ≡ c → (1 == core) ≡ d → IsTrue c → IsFalse d
+never_both_ways core true true e one has = absurd (grind (arith, nat_tests))
+never_both_ways core c false e one has = refl
+never_both_ways core false true e one has = cc
+
+lists_one : (b : Bool) → IsTrue (b || false) → IsTrue b
+lists_one true h = refl
+lists_one false h = cc
+
+lists_none : (b : Bool) → IsFalse b → IsFalse (b || false)
+lists_none true h = cc
+lists_none false h = refl
+
+other_of_a : (w : ℕ) (other : VmData) (core : ℕ) → w ≢ 0 → slice_get (vm_a ∷ vm_b ∷ []) w ≡ Some other → IsTrue (has_core core other)
+    → IsFalse (has_core core vm_a)
+other_of_a zero other core but got has = absurd (but refl)
+other_of_a (suc zero) other core but got has =
+    let vm : vm_b ≡ other = cc in
+    let own : IsTrue (has_core core vm_b) = subst (λ x. IsTrue (has_core core x)) (sym vm) has in
+    lists_none (0 == core) (never_both core (0 == core) (1 == core) refl refl (lists_one (1 == core) own))
+other_of_a (suc (suc w)) other core but got has = cc
+
+other_of_b : (w : ℕ) (other : VmData) (core : ℕ) → w ≢ 1 → slice_get (vm_a ∷ vm_b ∷ []) w ≡ Some other → IsTrue (has_core core other)
+    → IsFalse (has_core core vm_b)
+other_of_b zero other core but got has =
+    let vm : vm_a ≡ other = cc in
+    let own : IsTrue (has_core core vm_a) = subst (λ x. IsTrue (has_core core x)) (sym vm) has in
+    lists_none (1 == core) (never_both_ways core (0 == core) (1 == core) refl refl (lists_one (0 == core) own))
+other_of_b (suc zero) other core but got has = absurd (but refl)
+other_of_b (suc (suc w)) other core but got has = cc
+
 -- whose ports a core reaches
 module _ (core port : ℕ) (reached : ReachesPort (by_map pair core) (platform_places pair) port) where
   of_a : (0 == core) ≡ true → port ≡ 0
@@ -214,6 +251,7 @@ module _ (a b : List ℕ) (fit : AreFit a b) where
   a_is_apart = record {
     place = refl;
     cores = core_a;
+    other_cores = other_of_a;
     stores = λ core at stranger may in_map.
         stores_of_b core at (hyp core at) (memory_a core at) (memory_b core at) (shared core at) (port_a core at) (port_b core at)
         refl refl refl refl refl refl (not_a core stranger (0 == core) refl) (1 == core) refl may in_map;
@@ -238,6 +276,7 @@ module _ (a b : List ℕ) (fit : AreFit a b) where
   b_is_apart = record {
     place = refl;
     cores = λ core has. core_b core has (0 == core) (1 == core) refl refl;
+    other_cores = other_of_b;
     stores = λ core at stranger may in_map.
         stores_of_a core at (hyp core at) (memory_a core at) (memory_b core at) (shared core at) (port_a core at) (port_b core at)
         refl refl refl refl refl refl (not_b core stranger (0 == core) (1 == core) refl refl) (0 == core) refl may in_map;

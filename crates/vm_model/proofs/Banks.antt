@@ -1,6 +1,6 @@
 -- Where the ports of a well-formed configuration stand: none of them has a byte of memory, and no two have the same byte. So a
 -- byte of a VM's map that is a port's is of a port of the VM's.
-use Rattle.std.proofs.Common.{◌≡◌, ℕ, zero, suc, ◌+◌, ◌-◌, ◌<◌, ◌==◌, Bool, true, false, not, List, [], ◌∷◌, ◌++◌, map, filter, filter_map, find, length, get_or, slice_get, reverse, All, Option, Some, None, IfSome, option_map, inl, inr, ◌⊎◌, refl, sym, ap, subst, ◌∙◌, arith}
+use Rattle.std.proofs.Common.{◌≡◌, ℕ, suc, ◌+◌, ◌-◌, ◌<◌, ◌==◌, Bool, true, false, not, List, [], ◌∷◌, ◌++◌, map, filter, filter_map, find, length, get_or, slice_get, reverse, All, Option, Some, None, IfSome, option_map, inl, inr, ◌⊎◌, refl, sym, ap, subst, ◌∙◌, arith}
 use Rattle.std.specs.Prelude.{IsTrue, IsFalse, ◌||◌}
 use Rattle.std.specs.List.{cons_option, list_any}
 use Rattle.std.proofs.lemmas.Bool.{cases_order, eqb-true, not-false}

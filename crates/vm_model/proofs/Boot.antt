@@ -7,11 +7,13 @@ use Rattle.bao_config.specs.Data.{ConfigData, VmData}
 use Rattle.bao_types.specs.ByteRange.{is_within}
 use Rattle.bao_wellformed.specs.Map.{has_core, owner}
 use Rattle.board.specs.Machine.{over}
+use Rattle.vm_model.specs.Guests.{boot_table}
 use Rattle.vm_model.specs.Boot.{boot, boot_bytes, boot_core, boot_power}
 use Rattle.vm_model.specs.Agree.{Agree}
 use Rattle.vm_model.specs.Apart.{IsApart}
 use Rattle.vm_model.proofs.Lists.{mapped_get_or, mapped_slice_get}
-use Rattle.vm_model.proofs.Own.{single, owned, owned_alone}
+use Rattle.vm_model.proofs.Duties.{single}
+use Rattle.vm_model.proofs.Own.{owned, owned_alone}
 
 -- no image of these VMs lies over the byte, but of the one at place v
 IsFree : List VmData → List (List ℕ) → (ℕ → Type 0) → ℕ → Type 0
@@ -61,7 +63,7 @@ module _ (cfg : ConfigData) (images : List (List ℕ)) (v : ℕ) (vm : VmData) (
   from_zero : {Y : Type 0} (one other : ℕ → Y) (core : ℕ) → one core ≡ other core → one (0 + core) ≡ other (0 + core)
   from_zero one other core same = let e : 0 + core ≡ core = omega arith in ap one e ∙ same ∙ sym (ap other e)
 
-  pub boots_alike : Agree cfg vm (boot cfg images) (boot (single cfg vm) (option_to_list (slice_get images v)))
+  pub boots_alike : Agree cfg v vm (boot cfg images) (boot (single cfg vm) (option_to_list (slice_get images v)))
   unfolding IsFree
   boots_alike = record {
     bytes = λ at in_map.
@@ -77,5 +79,6 @@ module _ (cfg : ConfigData) (images : List (List ℕ)) (v : ℕ) (vm : VmData) (
         (from_zero (λ c. boot_power (owner cfg c) c) (λ c. boot_power (owner (single cfg vm) c) c) core
         (ap (λ o. boot_power o core) (owners core has)));
     core_count = length-map _ _ ∙ sym (length-map _ _);
+    table = ap boot_table apart.place;
     ports = λ port has. refl;
   }

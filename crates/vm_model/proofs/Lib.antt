@@ -1,6 +1,7 @@
 pub mod Lists
 pub mod Stores
 pub mod Ports
+pub mod Duties
 pub mod Own
 pub mod Strangers
 pub mod Boot

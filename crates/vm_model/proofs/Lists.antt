@@ -2,6 +2,7 @@
 use Rattle.std.proofs.Common.{◌≡◌, ◌≢◌, ℕ, zero, suc, ◌+◌, ◌<◌, ◌≤◌, Bool, true, false, List, [], ◌∷◌, length, map, get_or, set, refl, sym, ap, ◌∙◌, arith}
 use Rattle.std.specs.Prelude.{IsTrue, ◌==◌, nat_lt, Some, if◌then◌else◌, slice_get}
 use Rattle.std.specs.List.{find, position_from, enumerate_from}
+use Rattle.std.proofs.lemmas.Bool.{eq-eqb}
 use Rattle.std.proofs.lemmas.Bool.Decides.{nat_tests}
 use Rattle.std.proofs.lemmas.List.{get_or-set_same, get_or-set_other, set_past}
 use Rattle.bao_config.specs.Data.{VmData}
@@ -49,6 +50,13 @@ first_by_place p xs v x got h =
     let same : slice_get xs v ≡ slice_get xs r.index = ap (slice_get xs) (omega (arith, r.place)) in
     let element : r.element ≡ x = (let e : Some r.element ≡ Some x = sym r.got ∙ sym same ∙ got in cc) in
     (r.first ∙ ap Some element, ap p (sym element) ∙ r.passes)
+
+-- what stands at the place of the first one that passes
+pub placed_got : (p : VmData → Bool) (xs : List VmData) (v : ℕ) → position_from p 0 xs ≡ Some v
+    → (x : VmData) × (slice_get xs v ≡ Some x) × IsTrue (p x)
+placed_got p xs v e =
+    let r = found p xs 0 v (ap (is_place v) e ∙ eq-eqb v v refl) in
+    (r.element, ap (slice_get xs) (let i = r.place in omega (arith, i)) ∙ r.got, r.passes)
 
 -- the first one that passes stands at a place
 pub found_got : {A : Type 0} (p : A → Bool) (xs : List A) (x : A) → find p xs ≡ Some x

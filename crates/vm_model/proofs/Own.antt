@@ -1,6 +1,6 @@
 -- A step of a core of the VM does the same in both.
-use Rattle.std.proofs.Common.{◌≡◌, ℕ, Bool, true, false, List, [], ◌∷◌, length-set, refl, sym, ap, subst, ◌∙◌, inl, inr}
-use Rattle.std.specs.Prelude.{IsTrue, ◌&&◌, ◌⊎◌, ◌%◌, ◌==◌, not, if◌then◌else◌, Some, is_some, slice_get, slice_set}
+use Rattle.std.proofs.Common.{◌≡◌, ℕ, Bool, true, false, length-set, refl, sym, ap, subst, ◌∙◌, inl, inr}
+use Rattle.std.specs.Prelude.{IsTrue, ◌&&◌, ◌⊎◌, if◌then◌else◌, Some, is_some, slice_get, slice_set}
 use Rattle.bao_types.specs.declared.access.Access.{Access}
 use Rattle.bao_types.specs.declared.access.Access.TheVariants.{Read, Write, Exec}
 use Rattle.bao_types.specs.declared.access.Class.TheVariants.{Hyp}
@@ -14,24 +14,18 @@ use Rattle.bao_wellformed.specs.Map.{verdict_of, by_map}
 use Rattle.board.specs.Stage.{Stage, both, by_regions, is_allowed}
 use Rattle.board.specs.Ports.{all_accessed}
 use Rattle.board.specs.Judge.{reach_of}
-use Rattle.board.specs.Attempt.{Outcome, Ran, Leave, Unbuilt, attempt}
+use Rattle.board.specs.Attempt.{attempt}
 use Rattle.board.specs.Machine.{core_at, written}
-use Rattle.vm_model.specs.Flat.{Flat, Step, is_on, runs, platform_places, flat_attempt, powers_after, flat_stepped, flat_step}
-use Rattle.vm_model.specs.Park.{is_abort, is_of_class, is_described, width_of, is_in_frame, parks}
+use Rattle.vm_model.specs.Flat.{Flat, Step, is_on, runs, platform_places, flat_attempt, flat_duty, flat_guests, flat_stepped, flat_step}
+use Rattle.vm_model.specs.Duty.{done, duty_of, place_of}
 use Rattle.vm_model.specs.Lone.{is_core_of}
 use Rattle.board.specs.Reached.{ReachesPort}
 use Rattle.board.proofs.Reached.{allowed_by_second, observes_nothing_else, port_by_second}
 use Rattle.vm_model.specs.Agree.{is_present, IsInMap, Agree}
-use Rattle.exceptions.specs.declared.class.Class.TheVariants.{DataAbortLower}
-use Rattle.hypercalls.specs.declared.power.Power.{Power}
-use Rattle.hypercalls.specs.declared.power.Power.TheVariants.{Parked}
-use Rattle.vm_model.proofs.Lists.{first_by_place, set_alike, set_get_alike}
+use Rattle.vm_model.proofs.Duties.{single, SameGuests, at_place, done_alike}
+use Rattle.vm_model.proofs.Lists.{first_by_place, set_alike}
 use Rattle.vm_model.proofs.Ports.{accesses_alike}
 use Rattle.vm_model.proofs.Stores.{written_alike}
-
--- the configuration with one VM
-abbrev pub single : ConfigData → VmData → ConfigData
-single cfg vm = record cfg { vms = vm ∷ [] }
 
 -- a byte that is reached is in the map
 pub present_of : (hyp : Bool) (kind : Kind) (access : Access)
@@ -75,30 +69,9 @@ module _ (cfg : ConfigData) (v : ℕ) (vm : VmData) (place : slice_get cfg.vms v
   seen_in_map one at (inl h) = allowed_in_map Read at (allowed_by_second one (by_map cfg core) Read at h)
   seen_in_map one at (inr h) = allowed_in_map Exec at (allowed_by_second one (by_map cfg core) Exec at h)
 
-  -- an exception parks the core in both
-  parks_alike : (esr far : ℕ) → parks cfg core esr far ≡ parks (single cfg vm) core esr far
-  parks_alike esr far =
-      ap (λ o. is_abort esr
-      && not (is_of_class DataAbortLower esr && is_described esr && (far % width_of esr == 0) && is_in_frame cfg o far))
-      (owned.0 ∙ sym owned_alone)
-
-  powers_alike : (outcome : Outcome) (ps qs : List Power) (c : ℕ) → slice_get ps core ≡ slice_get qs core
-      → slice_get ps c ≡ slice_get qs c
-      → slice_get (powers_after cfg core outcome ps) c ≡ slice_get (powers_after (single cfg vm) core outcome qs) c
-  powers_alike Ran ps qs c here there = there
-  powers_alike (Leave esr far) ps qs c here there =
-      by_park (parks cfg core esr far)
-      ∙ ap (λ p. slice_get (if p then slice_set qs core (Parked esr far) else qs) c) (parks_alike esr far)
-    where
-      by_park : (p : Bool)
-          → slice_get (if p then slice_set ps core (Parked esr far) else ps) c
-          ≡ slice_get (if p then slice_set qs core (Parked esr far) else qs) c
-      by_park true = set_get_alike ps qs core c (Parked esr far) here there
-      by_park false = there
-  powers_alike Unbuilt ps qs c here there = there
-
-  module _ (own_ports : (port : ℕ) → ReachesPort (by_map cfg core) (platform_places cfg) port → IsTrue (has_port port vm))
-      (f g : Flat) (agree : Agree cfg vm f g) (now : ℕ) where
+  module _ (own_cores : (c : ℕ) → IsTrue (has_core c vm) → IsTrue (is_core_of cfg v c))
+      (own_ports : (port : ℕ) → ReachesPort (by_map cfg core) (platform_places cfg) port → IsTrue (has_port port vm))
+      (f g : Flat) (agree : Agree cfg v vm f g) (now : ℕ) where
     runs_alike : runs cfg f core ≡ runs (single cfg vm) g core
     runs_alike =
         ap (λ o. is_some o && is_on (slice_get f.powers core)) (owned.0 ∙ sym owned_alone)
@@ -113,35 +86,57 @@ module _ (cfg : ConfigData) (v : ℕ) (vm : VmData) (place : slice_get cfg.vms v
         (λ at h. agree.bytes at (seen_in_map one at h))
         ∙ ap (λ two. attempt (reach_of one two places g.ports g.bytes) (core_at g.cores core) now) map_alike
 
-    stepped_alike : Agree cfg vm (flat_stepped cfg f core now) (flat_stepped (single cfg vm) g core now)
+    -- the step leaves the same to the hypervisor
+    guests_alike : SameGuests v vm (flat_guests f core (flat_attempt cfg f core now).core)
+        (flat_guests g core (flat_attempt (single cfg vm) g core now).core)
+    guests_alike =
+        let a = attempt_alike in
+        record {
+          cores = λ c has.
+              set_alike f.cores g.cores core c (flat_attempt cfg f core now).core (reset_core 0) agree.core_count
+              (agree.cores c has)
+              ∙ ap (λ e. core_at (slice_set g.cores core e.core) c) a;
+          powers = agree.powers;
+          core_count =
+              length-set f.cores core (flat_attempt cfg f core now).core ∙ agree.core_count
+              ∙ sym (length-set g.cores core (flat_attempt (single cfg vm) g core now).core);
+          table = agree.table;
+        }
+
+    left_alike : SameGuests v vm
+        (done cfg core (flat_duty cfg f core now) (flat_guests f core (flat_attempt cfg f core now).core))
+        (done (single cfg vm) core (flat_duty (single cfg vm) g core now) (flat_guests g core (flat_attempt (single cfg vm) g core now).core))
+    left_alike =
+        let before = flat_guests g core (flat_attempt (single cfg vm) g core now).core in
+        subst (λ o. SameGuests v vm
+        (done cfg core (flat_duty cfg f core now) (flat_guests f core (flat_attempt cfg f core now).core))
+        (done (single cfg vm) core (duty_of (single cfg vm) core o before) before)) (ap (λ e. e.outcome) attempt_alike)
+        (done_alike cfg v vm place (λ c has. at_place v (place_of cfg c) (own_cores c has))
+        (λ c has. (first_by_place (has_core c) cfg.vms v vm place (own_cores c has)).0) core owned.1
+        (flat_attempt cfg f core now).outcome _ _ guests_alike)
+
+    stepped_alike : Agree cfg v vm (flat_stepped cfg f core now) (flat_stepped (single cfg vm) g core now)
     stepped_alike =
         let a = attempt_alike in
         record {
           bytes = λ at in_map.
               written_alike (flat_attempt cfg f core now).stored f.bytes g.bytes at (agree.bytes at in_map)
               ∙ ap (λ e. written e.stored g.bytes at) a;
-          cores = λ c has.
-              set_alike f.cores g.cores core c (flat_attempt cfg f core now).core (reset_core 0) agree.core_count
-              (agree.cores c has)
-              ∙ ap (λ e. core_at (slice_set g.cores core e.core) c) a;
-          powers = λ c has.
-              powers_alike (flat_attempt cfg f core now).outcome f.powers g.powers c (agree.powers core owned.1)
-              (agree.powers c has)
-              ∙ ap (λ e. slice_get (powers_after (single cfg vm) core e.outcome g.powers) c) a;
-          core_count =
-              length-set f.cores core (flat_attempt cfg f core now).core ∙ agree.core_count
-              ∙ sym (length-set g.cores core (flat_attempt (single cfg vm) g core now).core);
+          cores = left_alike.cores;
+          powers = left_alike.powers;
+          core_count = left_alike.core_count;
+          table = left_alike.table;
           ports = λ port has.
               accesses_alike (flat_attempt cfg f core now).touched f.ports g.ports port (agree.ports port has)
               ∙ ap (λ e. all_accessed e.touched g.ports port) a;
         }
 
     by_runs : (r s : Bool) → r ≡ s
-        → Agree cfg vm (if r then flat_stepped cfg f core now else f) (if s then flat_stepped (single cfg vm) g core now else g)
+        → Agree cfg v vm (if r then flat_stepped cfg f core now else f) (if s then flat_stepped (single cfg vm) g core now else g)
     by_runs true true e = stepped_alike
     by_runs false false e = agree
     by_runs true false e = cc
     by_runs false true e = cc
 
-    pub own_step : Agree cfg vm (flat_step cfg f (Step core now)) (flat_step (single cfg vm) g (Step core now))
+    pub own_step : Agree cfg v vm (flat_step cfg f (Step core now)) (flat_step (single cfg vm) g (Step core now))
     own_step = by_runs (runs cfg f core) (runs (single cfg vm) g core) runs_alike

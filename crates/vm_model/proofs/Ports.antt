@@ -1,5 +1,5 @@
 -- What is done to ports, and the bytes that they are given.
-use Rattle.std.proofs.Common.{◌≡◌, ℕ, Bool, true, false, List, [], ◌∷◌, refl, sym, ap, subst, ◌∙◌, arith}
+use Rattle.std.proofs.Common.{◌≡◌, ℕ, Bool, true, false, List, [], ◌∷◌, refl, sym, ap, ◌∙◌, arith}
 use Rattle.std.specs.Prelude.{IsTrue, IsFalse, ◌==◌, if◌then◌else◌}
 use Rattle.std.proofs.lemmas.Bool.Decides.{nat_tests}
 use Rattle.ports.specs.PortState.{PortState}
@@ -34,24 +34,26 @@ accesses_alike (WritePort touched offset width value ∷ accesses) states others
     (accessed (WritePort touched offset width value) others) port
     (changed_alike (λ state. after_write state offset width value) states others touched port same)
 
-module _ (cfg : ConfigData) (vm : VmData) (port byte : ℕ) (f g : Flat) (agree : Agree cfg vm f g) where
+module _ (cfg : ConfigData) (v : ℕ) (vm : VmData) (port byte : ℕ) (f g : Flat) (agree : Agree cfg v vm f g) where
   -- both are given the byte
-  pub given_to_both : Agree cfg vm (flat_given f port byte) (flat_given g port byte)
+  pub given_to_both : Agree cfg v vm (flat_given f port byte) (flat_given g port byte)
   given_to_both = record {
     bytes = agree.bytes;
     cores = agree.cores;
     powers = agree.powers;
     core_count = agree.core_count;
+    table = agree.table;
     ports = λ other has. changed_alike (λ state. after_input state byte) f.ports g.ports port other (agree.ports other has);
   }
 
   -- a port that isn't the VM's is given it
-  pub given_to_another : IsFalse (has_port port vm) → Agree cfg vm (flat_given f port byte) g
+  pub given_to_another : IsFalse (has_port port vm) → Agree cfg v vm (flat_given f port byte) g
   given_to_another foreign = record {
     bytes = agree.bytes;
     cores = agree.cores;
     powers = agree.powers;
     core_count = agree.core_count;
+    table = agree.table;
     ports = λ other has. by_place other has (other == port) refl ∙ agree.ports other has;
   }
     where

@@ -1,6 +1,7 @@
 -- A step of a core of another VM, and what it brings into the VM's own run.
-use Rattle.std.proofs.Common.{◌≡◌, ◌≢◌, ℕ, Bool, true, false, List, [], ◌∷◌, length-set, refl, sym, ap, subst, ◌∙◌}
-use Rattle.std.specs.Prelude.{IsTrue, IsFalse, if◌then◌else◌, filter, slice_get, slice_set}
+use Rattle.std.proofs.Common.{◌≡◌, ◌≢◌, ℕ, Bool, true, false, List, [], ◌∷◌, ◌++◌, length-set, refl, sym, ap, subst, ◌∙◌}
+use Rattle.std.specs.Prelude.{IsTrue, IsFalse, if◌then◌else◌, filter, Option, None, Some, slice_get}
+use Rattle.std.proofs.lemmas.Bool.{eq-eqb}
 use Rattle.std.proofs.lemmas.List.{get_or-set_other}
 use Rattle.bao_types.specs.declared.access.Access.TheVariants.{Write}
 use Rattle.a64_state.specs.Registers.{reset_core}
@@ -10,27 +11,39 @@ use Rattle.bao_wellformed.specs.Map.{by_map}
 use Rattle.board.specs.Stage.{by_regions, is_allowed}
 use Rattle.board.specs.Ports.{all_accessed}
 use Rattle.board.specs.Reached.{ReachesPort}
-use Rattle.board.specs.Attempt.{Outcome, Ran, Leave, Unbuilt}
 use Rattle.board.specs.Machine.{core_at, written}
-use Rattle.vm_model.specs.Flat.{Flat, Step, runs, platform_places, flat_attempt, powers_after, flat_stepped, flat_step, flat_run}
-use Rattle.vm_model.specs.Park.{parks}
-use Rattle.hypercalls.specs.declared.power.Power.{Power}
-use Rattle.hypercalls.specs.declared.power.Power.TheVariants.{Parked}
-use Rattle.vm_model.specs.Lone.{is_core_of, is_in_window, as_event, stored, emitted}
+use Rattle.shared_windows.specs.Windows.{lists}
+use Rattle.vm_model.specs.Duty.{done, place_of, ring_of, rung}
+use Rattle.vm_model.specs.Flat.{Flat, Step, Rang, runs, platform_places, flat_attempt, flat_duty, flat_guests, flat_stepped, flat_step, flat_run}
+use Rattle.vm_model.specs.Lone.{is_core_of, is_in_window, is_place, as_event, as_ring, stored, emitted}
 use Rattle.vm_model.specs.Agree.{IsInMap, Agree}
 use Rattle.vm_model.specs.Apart.{IsApart}
 use Rattle.board.proofs.Reached.{accesses_leave, stored_by_second, touched_by_second}
-use Rattle.vm_model.proofs.Lists.{set_get_other}
+use Rattle.vm_model.proofs.Duties.{single, SameGuests, done_foreign, heard}
+use Rattle.vm_model.proofs.Lists.{placed_got}
 use Rattle.vm_model.proofs.Stores.{kept_alike}
 
--- writes that are an event, or none
-module _ (cfg : ConfigData) (g : Flat) where
-  after_event : (stores : List (ℕ × ℕ)) → flat_run cfg g (as_event stores) ≡ record g { bytes = written stores g.bytes }
-  after_event [] = refl
-  after_event (store ∷ stores) = refl
+-- writes and a ring that are events, or none
+module _ (cfg : ConfigData) (v : ℕ) (vm : VmData) (g : Flat) where
+  after_ring : (ring : Option (ℕ × ℕ)) (g : Flat)
+      → flat_run (single cfg vm) g (as_ring cfg v ring) ≡ record g { tables = heard cfg v vm ring g.tables }
+  after_ring None g = refl
+  after_ring (Some (shmem, event)) g = by_lists (lists cfg v shmem)
+    where
+      by_lists : (b : Bool)
+          → flat_run (single cfg vm) g (if b then Rang shmem event ∷ [] else [])
+          ≡ record g { tables = if b then rung (single cfg vm) (λ w. lists (single cfg vm) w shmem) shmem event g.tables else g.tables }
+      by_lists true = refl
+      by_lists false = refl
 
-module _ (cfg lone_cfg : ConfigData) (images : List (List ℕ)) (v : ℕ) (vm : VmData) (apart : IsApart cfg images v vm)
-    (core now : ℕ) (stranger : IsFalse (is_core_of cfg v core)) (f g : Flat) (agree : Agree cfg vm f g) where
+  after_events : (stores : List (ℕ × ℕ)) (ring : Option (ℕ × ℕ))
+      → flat_run (single cfg vm) g (as_event stores ++ as_ring cfg v ring)
+      ≡ record g { bytes = written stores g.bytes; tables = heard cfg v vm ring g.tables }
+  after_events [] ring = after_ring ring g
+  after_events (store ∷ stores) ring = after_ring ring (record g { bytes = written (store ∷ stores) g.bytes })
+
+module _ (cfg : ConfigData) (images : List (List ℕ)) (v : ℕ) (vm : VmData) (apart : IsApart cfg images v vm)
+    (core now : ℕ) (stranger : IsFalse (is_core_of cfg v core)) (f g : Flat) (agree : Agree cfg v vm f g) where
   window : ℕ → Bool
   window at = is_in_window cfg (slice_get cfg.vms v) at
 
@@ -41,15 +54,14 @@ module _ (cfg lone_cfg : ConfigData) (images : List (List ℕ)) (v : ℕ) (vm : 
   other_core c has same =
       let clash : true ≡ false = sym (apart.cores c has) ∙ ap (is_core_of cfg v) same ∙ stranger in cc
 
-  power_alike : (outcome : Outcome) (powers : List Power) (c : ℕ) → c ≢ core
-      → slice_get (powers_after cfg core outcome powers) c ≡ slice_get powers c
-  power_alike Ran powers c other = refl
-  power_alike (Leave esr far) powers c other = by_park (parks cfg core esr far)
-    where
-      by_park : (p : Bool) → slice_get (if p then slice_set powers core (Parked esr far) else powers) c ≡ slice_get powers c
-      by_park true = set_get_other powers core c (Parked esr far) other
-      by_park false = refl
-  power_alike Unbuilt powers c other = refl
+  -- the core isn't in the VM's list
+  foreign : (b : Bool) → has_core core vm ≡ b → IsFalse b
+  foreign true e = let clash : true ≡ false = sym (apart.cores core e) ∙ stranger in cc
+  foreign false e = refl
+
+  elsewhere : (w : ℕ) → place_of cfg core ≡ Some w → w ≢ v
+  elsewhere w there same =
+      let clash : true ≡ false = sym (ap (is_place v) there ∙ eq-eqb w v same) ∙ stranger in cc
 
   byte_alike : (at : ℕ) → IsInMap cfg vm at → written (stored cfg f core now) f.bytes at ≡ written seen_stores g.bytes at
   unfolding seen_stores
@@ -72,24 +84,49 @@ module _ (cfg lone_cfg : ConfigData) (images : List (List ℕ)) (v : ℕ) (vm : 
       (touched_by_second (by_regions (core_at f.cores core)) (by_map cfg core) (platform_places cfg) f.ports f.bytes (core_at f.cores core) now)
       ∙ agree.ports port has
 
-  stepped_alike : Agree cfg vm (flat_stepped cfg f core now) (record g { bytes = written seen_stores g.bytes })
-  stepped_alike = record {
-    bytes = byte_alike;
+  ring : Option (ℕ × ℕ)
+  ring = ring_of (flat_duty cfg f core now)
+
+  -- the step leaves the VM's part as it was
+  guests_alike : SameGuests v vm (flat_guests f core (flat_attempt cfg f core now).core)
+      (record { cores = g.cores; powers = g.powers; tables = g.tables })
+  guests_alike = record {
     cores = λ c has.
         get_or-set_other f.cores core c (flat_attempt cfg f core now).core (reset_core 0)
         (other_core c has)
         ∙ agree.cores c has;
-    powers = λ c has.
-        power_alike (flat_attempt cfg f core now).outcome f.powers c (other_core c has) ∙ agree.powers c has;
+    powers = agree.powers;
     core_count = length-set f.cores core (flat_attempt cfg f core now).core ∙ agree.core_count;
+    table = agree.table;
+  }
+
+  left_alike : SameGuests v vm
+      (done cfg core (flat_duty cfg f core now) (flat_guests f core (flat_attempt cfg f core now).core))
+      (record { cores = g.cores; powers = g.powers; tables = heard cfg v vm ring g.tables })
+  unfolding ring
+  left_alike =
+      done_foreign cfg v vm apart.place core (foreign (has_core core vm) refl) elsewhere apart.other_cores
+      (λ w there. let at = placed_got (has_core core) cfg.vms w there in (at.0, at.1))
+      (flat_attempt cfg f core now).outcome (flat_guests f core (flat_attempt cfg f core now).core)
+      (record { cores = g.cores; powers = g.powers; tables = g.tables }) guests_alike
+
+  stepped_alike : Agree cfg v vm (flat_stepped cfg f core now)
+      (record g { bytes = written seen_stores g.bytes; tables = heard cfg v vm ring g.tables })
+  stepped_alike = record {
+    bytes = byte_alike;
+    cores = left_alike.cores;
+    powers = left_alike.powers;
+    core_count = left_alike.core_count;
+    table = left_alike.table;
     ports = port_alike;
   }
 
   by_runs : (r : Bool)
-      → Agree cfg vm (if r then flat_stepped cfg f core now else f) (flat_run lone_cfg g (if r then as_event seen_stores else []))
-  by_runs true = subst (Agree cfg vm (flat_stepped cfg f core now)) (sym (after_event lone_cfg g seen_stores)) stepped_alike
+      → Agree cfg v vm (if r then flat_stepped cfg f core now else f)
+      (flat_run (single cfg vm) g (if r then as_event seen_stores ++ as_ring cfg v ring else []))
+  by_runs true = subst (Agree cfg v vm (flat_stepped cfg f core now)) (sym (after_events cfg v vm g seen_stores ring)) stepped_alike
   by_runs false = agree
 
-  pub stranger_step : Agree cfg vm (flat_step cfg f (Step core now)) (flat_run lone_cfg g (emitted cfg f v (Step core now)))
-  unfolding seen_stores
+  pub stranger_step : Agree cfg v vm (flat_step cfg f (Step core now)) (flat_run (single cfg vm) g (emitted cfg f v (Step core now)))
+  unfolding seen_stores ring
   stranger_step = by_runs (runs cfg f core)

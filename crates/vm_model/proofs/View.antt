@@ -1,10 +1,12 @@
 -- What a view is made of.
-use Rattle.std.proofs.Common.{◌≡◌, ℕ, Bool, true, false, List, [], ◌∷◌, All, refl}
-use Rattle.std.specs.Prelude.{IsTrue, if◌then◌else◌, filter, slice_get}
+use Rattle.std.proofs.Common.{◌≡◌, ℕ, Bool, true, false, List, [], ◌∷◌, ◌++◌, All, refl}
+use Rattle.std.specs.Prelude.{IsTrue, if◌then◌else◌, filter, Option, None, Some, slice_get}
 use Rattle.std.proofs.lemmas.List.Elements.{All-nil, All-cons, All-append, filter_passes}
 use Rattle.bao_config.specs.Data.{ConfigData}
-use Rattle.vm_model.specs.Flat.{Flat, FlatEvent, Step, Input, Wrote, runs, flat_step}
-use Rattle.vm_model.specs.Lone.{is_core_of, is_dev_of, is_in_window, as_event, stored, emitted, seen, view}
+use Rattle.shared_windows.specs.Windows.{lists}
+use Rattle.vm_model.specs.Duty.{ring_of}
+use Rattle.vm_model.specs.Flat.{Flat, FlatEvent, Step, Input, Wrote, Rang, runs, flat_duty, flat_step}
+use Rattle.vm_model.specs.Lone.{is_core_of, is_dev_of, is_in_window, as_event, as_ring, stored, emitted, seen, view}
 use Rattle.vm_model.specs.Alone.{IsItsOwn, SeesItsOwn}
 
 module _ (cfg : ConfigData) (v : ℕ) where
@@ -15,17 +17,27 @@ module _ (cfg : ConfigData) (v : ℕ) where
   of_writes [] all = All-nil (IsItsOwn cfg v)
   of_writes (store ∷ stores) all = All-cons (IsItsOwn cfg v) (Wrote (store ∷ stores)) [] all (All-nil (IsItsOwn cfg v))
 
+  of_ring : (ring : Option (ℕ × ℕ)) → All (IsItsOwn cfg v) (as_ring cfg v ring)
+  of_ring None = All-nil (IsItsOwn cfg v)
+  of_ring (Some (shmem, event)) = by_lists (lists cfg v shmem) refl
+    where
+      by_lists : (b : Bool) → lists cfg v shmem ≡ b → All (IsItsOwn cfg v) (if b then Rang shmem event ∷ [] else [])
+      by_lists true e = All-cons (IsItsOwn cfg v) (Rang shmem event) [] e (All-nil (IsItsOwn cfg v))
+      by_lists false e = All-nil (IsItsOwn cfg v)
+
   module _ (f : Flat) where
-    of_stores : (r : Bool) (stores : List (ℕ × ℕ))
+    of_others : (r : Bool) (stores : List (ℕ × ℕ)) (ring : Option (ℕ × ℕ))
         → All (IsItsOwn cfg v)
-        (if r then as_event (filter (λ store. is_in_window cfg (slice_get cfg.vms v) store.0) stores) else [])
-    of_stores true stores = of_writes _ (filter_passes (λ store. is_in_window cfg (slice_get cfg.vms v) store.0) stores)
-    of_stores false stores = All-nil (IsItsOwn cfg v)
+        (if r then as_event (filter (λ store. is_in_window cfg (slice_get cfg.vms v) store.0) stores) ++ as_ring cfg v ring else [])
+    of_others true stores ring =
+        All-append (IsItsOwn cfg v) _ _
+        (of_writes _ (filter_passes (λ store. is_in_window cfg (slice_get cfg.vms v) store.0) stores)) (of_ring ring)
+    of_others false stores ring = All-nil (IsItsOwn cfg v)
 
     of_core : (core now : ℕ) (own : Bool) → is_core_of cfg v core ≡ own
         → All (IsItsOwn cfg v) (if own then Step core now ∷ [] else emitted cfg f v (Step core now))
     of_core core now true own = All-cons (IsItsOwn cfg v) (Step core now) [] own (All-nil (IsItsOwn cfg v))
-    of_core core now false own = of_stores (runs cfg f core) (stored cfg f core now)
+    of_core core now false own = of_others (runs cfg f core) (stored cfg f core now) (ring_of (flat_duty cfg f core now))
 
     of_port : (port byte : ℕ) (own : Bool) → is_dev_of cfg v port ≡ own
         → All (IsItsOwn cfg v) (if own then Input port byte ∷ [] else emitted cfg f v (Input port byte))
@@ -36,6 +48,7 @@ module _ (cfg : ConfigData) (v : ℕ) where
     of_event (Step core now) = of_core core now (is_core_of cfg v core) refl
     of_event (Input port byte) = of_port port byte (is_dev_of cfg v port) refl
     of_event (Wrote stores) = All-nil (IsItsOwn cfg v)
+    of_event (Rang shmem event) = All-nil (IsItsOwn cfg v)
 
 -- each event of a view is the VM's own
 pub sees_its_own : SeesItsOwn

@@ -14,7 +14,7 @@ use Rattle.bao_wellformed.specs.ByteRules.{is_present, is_ram, shmem_of}
 use Rattle.bao_wellformed.specs.WellFormed.{IsWellFormed}
 use Rattle.bao_wellformed.proofs.Apart.{maps_apart}
 use Rattle.bao_wellformed.proofs.Kept.{kept}
-use Rattle.bao_wellformed.proofs.Once.{cores_owned, ports_apart}
+use Rattle.bao_wellformed.proofs.Once.{cores_apart, cores_owned, ports_apart}
 use Rattle.bao_wellformed.proofs.Places.{maps_granular, places_own}
 use Rattle.board.specs.Stage.{is_allowed}
 use Rattle.board.specs.Reached.{ReachesPort}
@@ -148,11 +148,20 @@ module _ (cfg : ConfigData) (v : ℕ) (vm : VmData) (well_formed : IsWellFormed 
       (own_present (kind_at cfg other at) own) in
       absurd (own_unshared (kind_at cfg other at) both.0 own both.2)
 
+-- a core of another VM isn't the VM's
+lacked : (cfg : ConfigData) (v : ℕ) (vm : VmData) → IsWellFormed cfg → slice_get cfg.vms v ≡ Some vm
+    → (w : ℕ) (other : VmData) (core : ℕ) → w ≢ v → slice_get cfg.vms w ≡ Some other → IsTrue (has_core core other)
+    → (b : Bool) → has_core core vm ≡ b → IsFalse b
+lacked cfg v vm well_formed place w other core differ there has true own =
+    absurd (differ (cores_apart cfg w v other vm core well_formed there place has own))
+lacked cfg v vm well_formed place w other core differ there has false own = refl
+
 -- each VM of a well-formed configuration is apart from the others
 pub well_formed_apart : WellFormedApart
 well_formed_apart cfg images v vm well_formed fits rooms place = record {
   place = place;
   cores = λ core has. core_of_place cfg v vm well_formed place core v vm place has refl;
+  other_cores = λ w other core differ there has. lacked cfg v vm well_formed place w other core differ there has (has_core core vm) refl;
   stores = stores_to_windows cfg v vm well_formed place;
   loads = λ w other image at differ there given in_map.
       loads_elsewhere cfg v vm well_formed place w other image at (rooms.each w other image there given) differ there in_map

@@ -12,12 +12,14 @@ use Rattle.vm_model.specs.Flat.{platform_places}
 use Rattle.vm_model.specs.Lone.{is_core_of, is_in_window}
 use Rattle.vm_model.specs.Agree.{IsInMap}
 
--- The VM at place v is apart from the others: its cores are its alone; where a core of another may store to a byte of
--- its map, the byte is a window of it; no image of another lies over its map; and its cores reach no ports but its own, which
--- no core of another reaches.
+-- The VM at place v is apart from the others: its cores are its alone, and no other lists one of them; where a core of another
+-- may store to a byte of its map, the byte is a window of it; no image of another lies over its map; and its cores reach no
+-- ports but its own, which no core of another reaches.
 pub record IsApart (cfg : ConfigData) (images : List (List ℕ)) (v : ℕ) (vm : VmData) : Type 0 where
   pub place : slice_get cfg.vms v ≡ Some vm
   pub cores : (core : ℕ) → IsTrue (has_core core vm) → IsTrue (is_core_of cfg v core)
+  pub other_cores : (w : ℕ) (other : VmData) (core : ℕ) → w ≢ v → slice_get cfg.vms w ≡ Some other → IsTrue (has_core core other)
+      → IsFalse (has_core core vm)
   pub stores : (core at : ℕ) → IsFalse (is_core_of cfg v core) → IsTrue (is_allowed (by_map cfg core Write at))
       → IsInMap cfg vm at → IsTrue (is_in_window cfg (Some vm) at)
   pub loads : (w : ℕ) (other : VmData) (image : List ℕ) (at : ℕ) → w ≢ v → slice_get cfg.vms w ≡ Some other

@@ -1,6 +1,6 @@
 -- The flat machine at boot: the images lie in memory, the first core of each VM is about to run, and the ports are new.
-use Rattle.std.specs.Prelude.{ℕ, zero, suc, ◌==◌, List, [], ◌∷◌, map, Option, None, Some}
-use Rattle.std.specs.List.{enumerate_from, position_from}
+use Rattle.std.specs.Prelude.{ℕ, zero, suc, List, [], ◌∷◌, map, Option, None, Some, slice_get}
+use Rattle.std.specs.List.{enumerate_from}
 use Rattle.a64_state.specs.Core.{CoreData}
 use Rattle.a64_state.specs.Registers.{reset_core}
 use Rattle.bao_config.specs.Data.{ConfigData, VmData}
@@ -9,6 +9,8 @@ use Rattle.board.specs.Ports.{standard_ports}
 use Rattle.board.specs.Machine.{over}
 use Rattle.hypercalls.specs.declared.power.Power.{Power}
 use Rattle.hypercalls.specs.declared.power.Power.TheVariants.{On, Off}
+use Rattle.vm_model.specs.Cores.{virtual_core}
+use Rattle.vm_model.specs.Guests.{boot_table}
 use Rattle.vm_model.specs.Flat.{Flat}
 
 -- memory at boot: zero but for the images, each at its VM's place
@@ -16,10 +18,6 @@ abbrev pub boot_bytes : List VmData → List (List ℕ) → ℕ → ℕ
 boot_bytes [] images = λ at. 0
 boot_bytes (vm ∷ vms) [] = λ at. 0
 boot_bytes (vm ∷ vms) (image ∷ images) = over vm.place.base image (boot_bytes vms images)
-
--- the virtual number of a physical core in its VM
-abbrev pub virtual_core : VmData → ℕ → Option ℕ
-virtual_core vm core = position_from (λ own. own == core) 0 vm.cores
 
 abbrev pub core_of_vm : VmData → Option ℕ → CoreData
 core_of_vm vm None = reset_core 0
@@ -54,6 +52,7 @@ boot cfg images =
       bytes = boot_bytes cfg.vms images;
       cores = boot_cores cfg;
       powers = boot_powers cfg;
+      tables = λ v. boot_table (slice_get cfg.vms v);
       ports = standard_ports;
       count = 0;
     }

@@ -1,5 +1,5 @@
 -- The model: one flat machine of all VMs, which asks the configuration's map for each byte. There is no EL2 entry and no hypervisor in it.
-use Rattle.std.specs.Prelude.{ℕ, ◌+◌, ◌&&◌, not, Bool, true, false, if◌then◌else◌, List, [], ◌∷◌, is_some, Option, None, Some, slice_get, slice_set}
+use Rattle.std.specs.Prelude.{ℕ, ◌+◌, ◌&&◌, Bool, true, false, if◌then◌else◌, List, [], ◌∷◌, is_some, Option, None, Some, slice_get, slice_set}
 use Rattle.a64_state.specs.Core.{CoreData}
 use Rattle.bao_config.specs.Data.{ConfigData}
 use Rattle.bao_wellformed.specs.Map.{owner, by_map}
@@ -7,26 +7,31 @@ use Rattle.ports.specs.Registers.{after_input}
 use Rattle.board.specs.Ports.{Places, PortStates, places_of, with_port, all_accessed}
 use Rattle.board.specs.Stage.{by_regions}
 use Rattle.board.specs.Judge.{Reach, reach_of}
-use Rattle.board.specs.Attempt.{Outcome, Ran, Leave, Unbuilt, Effect, attempt}
+use Rattle.board.specs.Attempt.{Effect, attempt}
 use Rattle.board.specs.Machine.{core_at, written}
 use Rattle.hypercalls.specs.declared.power.Power.{Power}
 use Rattle.hypercalls.specs.declared.power.Power.TheVariants.{On, Off, Parked}
-use Rattle.vm_model.specs.Park.{parks}
+use Rattle.shared_windows.specs.Windows.{lists}
+use Rattle.vm_model.specs.Guests.{Guests, Tables}
+use Rattle.vm_model.specs.Duty.{Duty, done, duty_of, is_not_built, rung}
 
--- memory by address, each core's registers and power by its number, what each port keeps, by its number, and the count of the
--- last step
+-- memory by address, each core's registers and power by its number, each VM's interrupts by its place, what each port keeps,
+-- by its number, and the count of the last step
 pub record Flat : Type 0 where
   pub bytes : ℕ → ℕ
   pub cores : List CoreData
   pub powers : List Power
+  pub tables : Tables
   pub ports : PortStates
   pub count : ℕ
 
--- what happens to the flat machine. A schedule has steps and inputs alone; a lone run also has what others wrote in shared windows
+-- What happens to the flat machine. A schedule has steps and inputs alone; a lone run also has what others wrote in shared
+-- windows, and the events of shared memories that they rang.
 pub data FlatEvent : Type 0 where
   Step : (core count : ℕ) → FlatEvent
   Input : (port byte : ℕ) → FlatEvent
   Wrote : List (ℕ × ℕ) → FlatEvent
+  Rang : (shmem event : ℕ) → FlatEvent
 
 abbrev pub is_on : Option Power → Bool
 is_on None = false
@@ -51,23 +56,32 @@ flat_reach cfg f core =
 abbrev pub flat_attempt : ConfigData → Flat → ℕ → ℕ → Effect
 flat_attempt cfg f core now = attempt (flat_reach cfg f core) (core_at f.cores core) now
 
--- the powers after a step of a core that comes to this: an abort of stage 2 parks it
-abbrev pub powers_after : ConfigData → ℕ → Outcome → List Power → List Power
-powers_after cfg core Ran powers = powers
-powers_after cfg core (Leave esr far) powers =
-    if parks cfg core esr far then slice_set powers core (Parked esr far) else powers
-powers_after cfg core Unbuilt powers = powers
+-- the cores, powers and interrupts as a step of a core leaves them to the hypervisor
+abbrev pub flat_guests : Flat → ℕ → CoreData → Guests
+flat_guests f core registers =
+    record { cores = slice_set f.cores core registers; powers = f.powers; tables = f.tables }
 
--- after a step of a core that runs
-abbrev pub flat_stepped : ConfigData → Flat → ℕ → ℕ → Flat
-flat_stepped cfg f core now =
-    record f {
+-- and what it leaves to do
+abbrev pub flat_duty : ConfigData → Flat → ℕ → ℕ → Duty
+flat_duty cfg f core now =
+    duty_of cfg core (flat_attempt cfg f core now).outcome (flat_guests f core (flat_attempt cfg f core now).core)
+
+-- after a step of a core that leaves such cores, powers and interrupts
+abbrev pub flat_left : ConfigData → Flat → ℕ → ℕ → Guests → Flat
+flat_left cfg f core now guests =
+    record {
       bytes = written (flat_attempt cfg f core now).stored f.bytes;
+      cores = guests.cores;
+      powers = guests.powers;
+      tables = guests.tables;
       ports = all_accessed (flat_attempt cfg f core now).touched f.ports;
-      cores = slice_set f.cores core (flat_attempt cfg f core now).core;
-      powers = powers_after cfg core (flat_attempt cfg f core now).outcome f.powers;
       count = now;
     }
+
+-- after a step of a core that runs, and all that the hypervisor does about it
+abbrev pub flat_stepped : ConfigData → Flat → ℕ → ℕ → Flat
+flat_stepped cfg f core now =
+    flat_left cfg f core now (done cfg core (flat_duty cfg f core now) (flat_guests f core (flat_attempt cfg f core now).core))
 
 -- after a port is given a byte
 abbrev pub flat_given : Flat → ℕ → ℕ → Flat
@@ -78,6 +92,7 @@ abbrev pub flat_step : ConfigData → Flat → FlatEvent → Flat
 flat_step cfg f (Step core now) = if runs cfg f core then flat_stepped cfg f core now else f
 flat_step cfg f (Input port byte) = flat_given f port byte
 flat_step cfg f (Wrote stores) = record f { bytes = written stores f.bytes }
+flat_step cfg f (Rang shmem event) = record f { tables = rung cfg (λ v. lists cfg v shmem) shmem event f.tables }
 
 -- a whole run, from a state on
 abbrev pub flat_run : ConfigData → Flat → List FlatEvent → Flat
@@ -89,6 +104,7 @@ abbrev pub is_entered : ConfigData → Flat → FlatEvent → Bool
 is_entered cfg f (Step core now) = runs cfg f core
 is_entered cfg f (Input port byte) = false
 is_entered cfg f (Wrote stores) = false
+is_entered cfg f (Rang shmem event) = false
 
 -- how many events enter a core
 abbrev pub entered_count : ConfigData → Flat → List FlatEvent → ℕ
@@ -96,18 +112,12 @@ entered_count cfg f [] = 0
 entered_count cfg f (event ∷ events) =
     (if is_entered cfg f event then 1 else 0) + entered_count cfg (flat_step cfg f event) events
 
--- What a step of a core comes to isn't built: not by the machine, or not by the hypervisor, which does nothing at an exception
--- that goes to EL2 yet but park the core.
-abbrev pub is_outcome_unbuilt : ConfigData → ℕ → Outcome → Bool
-is_outcome_unbuilt cfg core Ran = false
-is_outcome_unbuilt cfg core (Leave esr far) = not (parks cfg core esr far)
-is_outcome_unbuilt cfg core Unbuilt = true
-
 -- the event does something that isn't built
 abbrev pub is_event_unbuilt : ConfigData → Flat → FlatEvent → Bool
-is_event_unbuilt cfg f (Step core now) = runs cfg f core && is_outcome_unbuilt cfg core (flat_attempt cfg f core now).outcome
+is_event_unbuilt cfg f (Step core now) = runs cfg f core && is_not_built (flat_duty cfg f core now)
 is_event_unbuilt cfg f (Input port byte) = false
 is_event_unbuilt cfg f (Wrote stores) = false
+is_event_unbuilt cfg f (Rang shmem event) = false
 
 -- the number of the first event that does something that isn't built, counted on from a number
 abbrev pub first_unbuilt : ConfigData → Flat → ℕ → List FlatEvent → Option ℕ

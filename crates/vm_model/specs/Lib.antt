@@ -1,4 +1,7 @@
+pub mod Cores
+pub mod Guests
 pub mod Park
+pub mod Duty
 pub mod Flat
 pub mod Boot
 pub mod Lone

@@ -1,11 +1,12 @@
 -- A VM alone: its own configuration, what it sees of a run, and its own run over that.
 use Rattle.std.specs.Prelude.{ℕ, ◌==◌, Bool, true, false, if◌then◌else◌, List, [], ◌∷◌, ◌++◌, filter, Option, None, Some, slice_get, option_to_list}
-use Rattle.std.specs.List.{position_from}
 use Rattle.bao_config.specs.Data.{ConfigData, VmData}
 use Rattle.bao_wellformed.specs.declared.map.Kind.{Kind}
 use Rattle.bao_wellformed.specs.declared.map.Kind.TheVariants.{Ram, Port, Window, Hole}
-use Rattle.bao_wellformed.specs.Map.{kind_at, has_core, has_port}
-use Rattle.vm_model.specs.Flat.{Flat, FlatEvent, Step, Input, Wrote, runs, flat_attempt, flat_step, flat_run}
+use Rattle.bao_wellformed.specs.Map.{kind_at, has_port}
+use Rattle.shared_windows.specs.Windows.{lists}
+use Rattle.vm_model.specs.Duty.{place_of, ring_of}
+use Rattle.vm_model.specs.Flat.{Flat, FlatEvent, Step, Input, Wrote, Rang, runs, flat_attempt, flat_duty, flat_step, flat_run}
 use Rattle.vm_model.specs.Boot.{boot}
 
 -- the configuration with this VM as its only one; the platform, the hypervisor's range and the shared memories stay
@@ -28,18 +29,26 @@ abbrev pub as_event : List (ℕ × ℕ) → List FlatEvent
 as_event [] = []
 as_event (store ∷ stores) = Wrote (store ∷ stores) ∷ []
 
+-- the event as one of the lone run, where the VM lists the shared memory
+abbrev pub as_ring : ConfigData → ℕ → Option (ℕ × ℕ) → List FlatEvent
+as_ring cfg v None = []
+as_ring cfg v (Some (shmem, event)) = if lists cfg v shmem then Rang shmem event ∷ [] else []
+
 -- the bytes that a step stores, each with its address, in order
 abbrev pub stored : ConfigData → Flat → ℕ → ℕ → List (ℕ × ℕ)
 stored cfg f core now = (flat_attempt cfg f core now).stored
 
--- what an event of another brings into the VM's run: the bytes that it stores in the VM's windows
+-- what an event of another brings into the VM's run: the bytes that it stores in the VM's windows, then the event that it rings
+-- of a shared memory that the VM lists
 abbrev pub emitted : ConfigData → Flat → ℕ → FlatEvent → List FlatEvent
 emitted cfg f v (Step core now) =
     if runs cfg f core
     then as_event (filter (λ store. is_in_window cfg (slice_get cfg.vms v) store.0) (stored cfg f core now))
+    ++ as_ring cfg v (ring_of (flat_duty cfg f core now))
     else []
 emitted cfg f v (Input port byte) = []
 emitted cfg f v (Wrote stores) = []
+emitted cfg f v (Rang shmem event) = []
 
 abbrev pub is_place : ℕ → Option ℕ → Bool
 is_place v None = false
@@ -47,7 +56,7 @@ is_place v (Some w) = w == v
 
 -- the core is one of the VM's
 abbrev pub is_core_of : ConfigData → ℕ → ℕ → Bool
-is_core_of cfg v core = is_place v (position_from (has_core core) 0 cfg.vms)
+is_core_of cfg v core = is_place v (place_of cfg core)
 
 abbrev pub has_dev : ℕ → Option VmData → Bool
 has_dev port None = false
@@ -65,6 +74,7 @@ seen cfg f v (Step core now) =
 seen cfg f v (Input port byte) =
     if is_dev_of cfg v port then Input port byte ∷ [] else emitted cfg f v (Input port byte)
 seen cfg f v (Wrote stores) = []
+seen cfg f v (Rang shmem event) = []
 
 -- the events of the VM's own run, from a state of the whole machine on
 abbrev pub view : ConfigData → Flat → ℕ → List FlatEvent → List FlatEvent

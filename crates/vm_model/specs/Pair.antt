@@ -73,6 +73,18 @@ storing =
     ∷ 0x02 ∷ 0x00 ∷ 0x00 ∷ 0x10
     ∷ 0x40 ∷ 0x00 ∷ 0x01 ∷ 0x39 ∷ []
 
+-- for VM a: `movz x0, #1` and `movk x0, #0xc600, lsl #16`, the doorbell; `movz x2, #1`, its second event; and `hvc #0`
+abbrev pub ringing : List ℕ
+ringing =
+    0x20 ∷ 0x00 ∷ 0x80 ∷ 0xd2
+    ∷ 0x00 ∷ 0xc0 ∷ 0xb8 ∷ 0xf2
+    ∷ 0x22 ∷ 0x00 ∷ 0x80 ∷ 0xd2
+    ∷ 0x02 ∷ 0x00 ∷ 0x00 ∷ 0xd4 ∷ []
+
+-- four steps of core 0
+abbrev pub ring_turns : List FlatEvent
+ring_turns = Step 0 0 ∷ Step 0 1 ∷ Step 0 2 ∷ Step 0 3 ∷ []
+
 -- for VM b: `nop`
 abbrev pub waiting : List ℕ
 waiting = 0x1f ∷ 0x20 ∷ 0x03 ∷ 0xd5 ∷ []

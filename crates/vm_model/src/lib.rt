@@ -11,7 +11,9 @@ pub use alone::{
     a_well_formed_configuration_keeps_its_vms_apart, inputs_reach_their_vm_alone,
     others_only_write_windows,
 };
-pub use pair::{an_overlap_is_not_apart, the_pair_is_apart, what_the_pair_sees};
+pub use pair::{
+    an_overlap_is_not_apart, the_pair_is_apart, what_the_pair_rings, what_the_pair_sees,
+};
 
 mod alone;
 mod pair;

@@ -1,0 +1,150 @@
+-- What a step leaves to the hypervisor, and what that makes of the VMs. HVC and SMC are answered as calls of the VM: what
+-- comes of one is a matter of `hypercalls`. An abort that stage 2 makes parks its core.
+use Rattle.std.specs.Prelude.{ℕ, ◌==◌, ◌||◌, Bool, true, false, if◌then◌else◌, List, [], ◌∷◌, map, Option, None, Some, slice_get, slice_index, slice_index_or, slice_set}
+use Rattle.std.specs.List.{position_from}
+use Rattle.bao_types.specs.Bits.{field}
+use Rattle.a64_state.specs.Core.{CoreData}
+use Rattle.a64_state.specs.Registers.{reset_core, with_x, x_of}
+use Rattle.a64_execute.specs.Branch.{advanced}
+use Rattle.exceptions.specs.declared.class.Class.TheVariants.{Hvc, Smc}
+use Rattle.bao_config.specs.Data.{ConfigData, VmData}
+use Rattle.bao_wellformed.specs.Map.{has_core, owner}
+use Rattle.board.specs.Attempt.{Outcome, Ran, Leave, Unbuilt}
+use Rattle.board.specs.Machine.{begun, core_at}
+use Rattle.shared_windows.specs.Windows.{irq_of, is_member}
+use Rattle.hypercalls.specs.Calls.{answer_of, call_of, not_supported}
+use Rattle.hypercalls.specs.declared.outcome.Outcome.TheVariants as call
+use Rattle.hypercalls.specs.declared.outcome.Outcome as calls
+use Rattle.hypercalls.specs.declared.power.Power.{Power}
+use Rattle.hypercalls.specs.declared.power.Power.TheVariants.{On, Off, Parked}
+use Rattle.vgic_table.specs.Interrupts.{Interrupts}
+use Rattle.vgic_table.specs.Changes.{made_pending}
+use Rattle.vm_model.specs.Cores.{affinity_of}
+use Rattle.vm_model.specs.Guests.{Guests, Tables}
+use Rattle.vm_model.specs.Park.{is_of_class, parks}
+
+-- the exception is a call
+abbrev pub is_hvc : ℕ → Bool
+is_hvc esr = is_of_class Hvc esr
+
+abbrev pub is_smc : ℕ → Bool
+is_smc esr = is_of_class Smc esr
+
+abbrev pub is_call : ℕ → Bool
+is_call esr = is_hvc esr || is_smc esr
+
+-- the immediate of the instruction
+abbrev pub immediate : ℕ → ℕ
+immediate esr = field esr 15 0
+
+-- the place of the VM that has the core, where one has it
+abbrev pub place_of : ConfigData → ℕ → Option ℕ
+place_of cfg core = position_from (has_core core) 0 cfg.vms
+
+-- the physical cores of a VM, in the order of their virtual numbers
+abbrev pub cores_of : Option VmData → List ℕ
+cores_of None = []
+cores_of (Some vm) = vm.cores
+
+-- their powers; a core that the platform doesn't have is off
+abbrev pub powers_of : List ℕ → List Power → List Power
+powers_of cores powers = map (λ core. slice_index_or powers core Off) cores
+
+-- x0 to x3
+abbrev pub arguments : CoreData → List ℕ
+arguments core = x_of core 0 ∷ x_of core 1 ∷ x_of core 2 ∷ x_of core 3 ∷ []
+
+-- What comes of a call of a core of the VM at a place. One with an immediate other than 0 asks for nothing that is known.
+abbrev pub call_outcome : ConfigData → ℕ → ℕ → ℕ → Guests → calls.Outcome
+call_outcome cfg v core esr guests =
+    if immediate esr == 0
+    then call_of cfg v (powers_of (cores_of (slice_get cfg.vms v)) guests.powers) (arguments (core_at guests.cores core))
+    else call.Answer not_supported
+
+-- What a step leaves to do: nothing; to park the core, with syndrome and fault address; to answer a call of the VM at a place,
+-- made by SMC or by HVC, of which this comes; or what isn't built.
+pub data Duty : Type 0 where
+  Nothing : Duty
+  Park : (esr far : ℕ) → Duty
+  Call : (v : ℕ) (smc : Bool) (outcome : calls.Outcome) → Duty
+  NotBuilt : Duty
+
+abbrev pub call_duty : ConfigData → Option ℕ → ℕ → ℕ → Guests → Duty
+call_duty cfg None core esr guests = Nothing
+call_duty cfg (Some v) core esr guests = Call v (is_smc esr) (call_outcome cfg v core esr guests)
+
+abbrev pub duty_of : ConfigData → ℕ → Outcome → Guests → Duty
+duty_of cfg core Ran guests = Nothing
+duty_of cfg core (Leave esr far) guests =
+    if is_call esr then call_duty cfg (place_of cfg core) core esr guests
+    else if parks cfg core esr far then Park esr far
+    else NotBuilt
+duty_of cfg core Unbuilt guests = NotBuilt
+
+abbrev pub is_not_built : Duty → Bool
+is_not_built Nothing = false
+is_not_built (Park esr far) = false
+is_not_built (Call v smc outcome) = false
+is_not_built NotBuilt = true
+
+-- The core that called: x0 is the answer, and SMC is stepped past; but a core that the call turned off stays as it is.
+abbrev pub answered : Bool → Option ℕ → CoreData → CoreData
+answered smc None core = core
+answered smc (Some value) core = if smc then advanced (with_x core 0 value) else with_x core 0 value
+
+-- the event of a shared memory is pending in a VM that has a number for it, among the ids of its first core
+abbrev pub pended : Option ℕ → Interrupts → Interrupts
+pended None table = table
+pended (Some irq) table = made_pending table 0 irq
+
+-- the event of a shared memory is pending in each of these VMs
+abbrev pub rung : ConfigData → (ℕ → Bool) → ℕ → ℕ → Tables → Tables
+rung cfg hears shmem event tables v = if hears v then pended (irq_of cfg v shmem event) (tables v) else tables v
+
+-- a core is reset, and begins at an entry with an argument in x0
+abbrev pub started : ConfigData → ℕ → ℕ → ℕ → CoreData
+started cfg core entry arg = begun (reset_core (affinity_of (owner cfg core) core)) entry arg
+
+abbrev pub turned_on : ConfigData → ℕ → ℕ → ℕ → Guests → Guests
+turned_on cfg core entry arg guests =
+    record guests {
+      cores = slice_set guests.cores core (started cfg core entry arg);
+      powers = slice_set guests.powers core On;
+    }
+
+-- each of these cores is off
+abbrev pub all_off : List ℕ → List Power → List Power
+all_off [] powers = powers
+all_off (core ∷ cores) powers = all_off cores (slice_set powers core Off)
+
+-- what comes of a call of a core of the VM at a place is carried out; `cores` are that VM's
+abbrev pub carried : ConfigData → ℕ → List ℕ → ℕ → calls.Outcome → Guests → Guests
+carried cfg v cores core (call.Answer value) guests = guests
+carried cfg v cores core (call.Ring shmem event) guests =
+    record guests { tables = rung cfg (is_member cfg shmem v) shmem event guests.tables }
+carried cfg v cores core call.Off guests = record guests { powers = slice_set guests.powers core Off }
+carried cfg v cores core (call.On own entry arg) guests = turned_on cfg (slice_index cores own) entry arg guests
+carried cfg v cores core call.SystemOff guests = record guests { powers = all_off cores guests.powers }
+
+abbrev pub with_answer : ℕ → Bool → Option ℕ → Guests → Guests
+with_answer core smc answer guests =
+    record guests { cores = slice_set guests.cores core (answered smc answer (core_at guests.cores core)) }
+
+-- after what was left to do for a core is done
+abbrev pub done : ConfigData → ℕ → Duty → Guests → Guests
+done cfg core Nothing guests = guests
+done cfg core (Park esr far) guests = record guests { powers = slice_set guests.powers core (Parked esr far) }
+done cfg core (Call v smc outcome) guests =
+    carried cfg v (cores_of (slice_get cfg.vms v)) core outcome (with_answer core smc (answer_of outcome) guests)
+done cfg core NotBuilt guests = guests
+
+-- the event of a shared memory that is rung, where one is
+abbrev pub ring_of : Duty → Option (ℕ × ℕ)
+ring_of Nothing = None
+ring_of (Park esr far) = None
+ring_of (Call v smc (call.Answer value)) = None
+ring_of (Call v smc (call.Ring shmem event)) = Some (shmem, event)
+ring_of (Call v smc call.Off) = None
+ring_of (Call v smc (call.On own entry arg)) = None
+ring_of (Call v smc call.SystemOff) = None
+ring_of NotBuilt = None
