@@ -442,5 +442,6 @@ no_undefined : (instr : Instr) → IsTrue (is_said instr) → instr ≢ Undefine
 no_undefined instr said undefined = let none : is_said Undefined ≡ true = subst (λ i. is_said i ≡ true) undefined said in cc
 
 -- so it is encoded as that word
-pub encodes : (instr : Instr) → IsLawful instr → IsTrue (is_said instr) → IsWordOf instr (word_of instr)
+pub encodes : (instr : Instr) → IsLawful instr → IsTrue (is_said instr) → IsWordOf instr (encoded instr)
+unfolding encoded
 encodes instr lawful said = let facts = has_word instr lawful said in (facts.below, facts.read, no_undefined instr said)

@@ -8,7 +8,7 @@ ghost use Rattle.a64_asm.specs.Reading.{is_shift, moved, move_row, number_added,
 
 use crate::label::{Labels, target, words_to};
 use crate::mnemonic::{Mnemonic, read_mnemonic};
-use crate::number::{hex_word, number};
+use crate::number::hex_word;
 use crate::operand::{
     Numbers, Trio, base, is_same, make_trio, offset, system_numbers, three_operands,
 };
