@@ -19,6 +19,7 @@ use a64_decode::{
     BranchKind, Condition, ExceptionKind, Instr, LogicalKind, MoveKind, Shift, Size, Transfer,
 };
 use bao_types::SysId;
+use numerals::number;
 
 /// What a line says that is the word of this place, else the first of the rules 1 to 3 that it breaks.
 #[tactic(auto, unfolding(crate::specs::Reading::said_of))]
