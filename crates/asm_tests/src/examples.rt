@@ -4,7 +4,7 @@ use crate::told::{listed, there_and_back};
 use std::alloc::{AllocError, Global};
 use std::process::Abort;
 
-/// The images of `examples/`, by their bytes.
+/// The images of `examples/`, by their bytes. `scripts/list-examples.sh` tries the files themselves.
 #[rattlefmt::skip]
 static EXAMPLES: &str = "\
 checksum/a|2002a0d2000080f21f0000912d000094000000140000000000000000000000004500009004649052a5000091030080d204b7bd721f2003d5\

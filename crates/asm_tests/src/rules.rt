@@ -249,7 +249,12 @@ mrs w0, s4_0_c0_c0_0
 b there there
 cbnz w31, 1048576";
 
-fn check_source(rt: &impl Abort, alloc: Global, source: &str, want: &str) -> Result<(), AllocError> {
+fn check_source(
+    rt: &impl Abort,
+    alloc: Global,
+    source: &str,
+    want: &str,
+) -> Result<(), AllocError> {
     let said = told(alloc, with_ends(alloc, source)?.as_bytes())?;
     assert!(rt; said.as_str() == want, "{source}: {said}");
     Ok(())
