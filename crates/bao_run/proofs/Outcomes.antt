@@ -2,7 +2,7 @@
 use Rattle.std.proofs.Common.{◌≡◌, ℕ, List, refl, sym, subst, ap, ◌∙◌, inl, inr, false}
 use Rattle.std.specs.Prelude.{Option, None, Some}
 use Rattle.bao_wellformed.specs.Checked.{checked_data}
-use Rattle.outside.specs.Shelf.{Files}
+use Rattle.outside.specs.Shelf.{Files, IfHeld}
 use Rattle.outside.specs.Use.{IsFaultless, IsPut}
 use Rattle.outside.proofs.Told.{every}
 use Rattle.report.specs.declared.status.Part.TheVariants as part
