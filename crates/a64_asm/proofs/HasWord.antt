@@ -30,7 +30,7 @@ use Rattle.a64_decode.specs.Codes.{bit, condition_number, shift_number, logical_
 use Rattle.a64_decode.specs.Lawful.{IsLawful, IsSigned, is_rotation, has_no_transfer}
 use Rattle.a64_decode.specs.Word.{join, fields_of, row_of, word_of}
 use Rattle.a64_decode.specs.Table.{table, decoded, branch_rows, system_rows, register_rows, source_rows, load_store_rows, is_above_31, is_no_transfer, address_row, add_sub_immediate_row, logical_immediate_row, move_wide_row, bitfield_row, extract_row, branch_row, branch_conditional_row, compare_branch_row, test_branch_row, branch_register_row, exception_return_row, exception_row, hint_row, barrier_row, msr_immediate_row, system_row, system_register_row, logical_shifted_row, add_sub_shifted_row, add_sub_extended_row, add_sub_carry_row, conditional_compare_row, conditional_select_row, three_sources_row, two_sources_row, one_source_row, load_literal_row, pair_row, load_store_unsigned_row, load_store_indexed_row, load_store_register_row}
-use Rattle.a64_encode.specs.Encode.{IsWordOf}
+use Rattle.a64_encode.specs.Encode.{IsWordOf, encoded}
 use Rattle.a64_asm.specs.Source.{is_said}
 use Rattle.a64_asm.proofs.Encodable.{fills, is_apart, IsFit, IsReadAs, read_as}
 
@@ -442,5 +442,6 @@ no_undefined : (instr : Instr) → IsTrue (is_said instr) → instr ≢ Undefine
 no_undefined instr said undefined = let none : is_said Undefined ≡ true = subst (λ i. is_said i ≡ true) undefined said in cc
 
 -- so it is encoded as that word
-pub encodes : (instr : Instr) → IsLawful instr → IsTrue (is_said instr) → IsWordOf instr (word_of instr)
+pub encodes : (instr : Instr) → IsLawful instr → IsTrue (is_said instr) → IsWordOf instr (encoded instr)
+unfolding encoded
 encodes instr lawful said = let facts = has_word instr lawful said in (facts.below, facts.read, no_undefined instr said)

@@ -1,5 +1,4 @@
 mod Cuts
-mod Numbers
 mod Hex
 mod Offsets
 mod Words

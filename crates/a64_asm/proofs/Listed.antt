@@ -15,8 +15,7 @@ use Rattle.a64_decode.specs.declared.operand.Size.TheVariants as size
 use Rattle.a64_decode.specs.declared.operand.Transfer.{Transfer}
 use Rattle.a64_decode.specs.declared.operand.Transfer.TheVariants as transfer
 use Rattle.a64_decode.specs.Table.{decoded}
-use Rattle.a64_decode.specs.Word.{word_of}
-use Rattle.a64_decode.proofs.Distinct.{word_of-decoded}
+use Rattle.a64_encode.proofs.Made.{encoded-made}
 use Rattle.a64_asm.specs.Text.{Cut, Whole, Parts, cut_of}
 use Rattle.a64_asm.specs.Register.{named}
 use Rattle.a64_asm.specs.Mnemonic.{name_of}
@@ -180,7 +179,7 @@ read_back text said word line is =
 
 by_form : (word : ℕ) → word < 2 ^ 32 → (form : Option (List ℕ)) → IsFormLine form (decoded word) → IsReadBack (unwrap_or form (raw_text word)) word
 by_form word low None line = read_back (raw_text word) (Raw word) word (raw_line word low) refl
-by_form word low (Some text) line = read_back text (Instruction (decoded word)) word line.0 (word_of-decoded word low line.1)
+by_form word low (Some text) line = read_back text (Instruction (decoded word)) word line.0 (encoded-made (decoded word) word (low, refl, line.1))
 
 text_back : (word : ℕ) → word < 2 ^ 32 → IsReadBack (text_of word) word
 text_back word low = by_form word low (form_of (decoded word)) (form_line (decoded word) (lawful_words word))

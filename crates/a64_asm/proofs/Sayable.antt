@@ -14,7 +14,8 @@ use Rattle.a64_decode.specs.declared.operand.Size.TheVariants as size
 use Rattle.a64_decode.specs.declared.operand.Transfer.{Transfer}
 use Rattle.a64_decode.specs.Lawful.{IsSigned, has_no_transfer, width_of}
 use Rattle.a64_asm.specs.Text.{Cut, Whole, Parts, cut_of, operand_of}
-use Rattle.a64_asm.specs.Number.{number_of, hex_word_of}
+use Rattle.numerals.specs.Numeral.{number_of}
+use Rattle.a64_asm.specs.Number.{hex_word_of}
 use Rattle.a64_asm.specs.Register.{last_name, letter_of, named, numbered, lettered, register_of}
 use Rattle.a64_asm.specs.Mnemonic.{mnemonic_of}
 use Rattle.a64_asm.specs.Operand.{Triple, Fewer, Three, triple_of, is_same, trio_of, base_of, offset_of, system_numbers, target_of, words_in, is_within, words_to}

@@ -13,7 +13,8 @@ use Rattle.std.proofs.lemmas.Str.Parse.{IsNumeralModel, numerals_by_fold}
 use Rattle.std.proofs.lemmas.Fmt.{decimal_digit, decimal_nonempty, first_decimal, digits_decimal, digits_value-decimal}
 use Rattle.a64_decode.specs.declared.operand.Reg.{Reg}
 use Rattle.a64_asm.specs.Text.{Cut, Whole, Parts, put_before, cut_of, without_blank, operand_of, comma}
-use Rattle.a64_asm.specs.Number.{value_of, has_no_leading_zero, number_of, hex, is_hex_digit, hex_digit_value, hex_word_of}
+use Rattle.numerals.specs.Numeral.{value_of, has_no_leading_zero, number_of}
+use Rattle.a64_asm.specs.Number.{hex, is_hex_digit, hex_digit_value, hex_word_of}
 use Rattle.a64_asm.specs.Register.{register_of, register_text, last_name, letter_of, named}
 use Rattle.a64_asm.specs.declared.register.Register.{Register}
 use Rattle.a64_asm.specs.Operand.{is_same}

@@ -3,7 +3,7 @@ use Rattle.std.specs.Prelude.{ℕ, ◌+◌, ◌-◌, ◌*◌, ◌/◌, ◌%◌, 
 use Rattle.std.specs.List.{list_all}
 use Rattle.std.specs.Char.{is_ascii_digit}
 use Rattle.a64_asm.specs.Text.{Cut, Whole, Parts, cut_of, operand_of}
-use Rattle.a64_asm.specs.Number.{number_of}
+use Rattle.numerals.specs.Numeral.{number_of}
 use Rattle.a64_asm.specs.Register.{register_of}
 use Rattle.a64_asm.specs.declared.register.Register.{Register}
 use Rattle.a64_asm.specs.declared.operand.Trio.{Trio}

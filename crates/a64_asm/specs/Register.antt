@@ -3,7 +3,7 @@ use Rattle.std.specs.Prelude.{ℕ, ◌==◌, ◌++◌, nat_lt, Bool, true, false
 use Rattle.std.specs.Fmt.{decimal}
 use Rattle.std.specs.Str.{bytes_eq}
 use Rattle.a64_decode.specs.declared.operand.Reg.{Reg}
-use Rattle.a64_asm.specs.Number.{number_of}
+use Rattle.numerals.specs.Numeral.{number_of}
 use Rattle.a64_asm.specs.declared.register.Register.{Register}
 
 -- register 31 by its name: the zero register, or, where `stack` says so, SP

@@ -6,7 +6,7 @@ use Rattle.std.specs.Str.{bytes_eq}
 use Rattle.a64_decode.specs.declared.instr.Instr.{Instr}
 use Rattle.a64_decode.specs.declared.instr.Instr.TheVariants as instr
 use Rattle.a64_decode.specs.Lawful.{IsLawful}
-use Rattle.a64_decode.specs.Word.{word_of}
+use Rattle.a64_encode.specs.Encode.{encoded}
 use Rattle.a64_asm.specs.Text.{Cut, Whole, Parts, cut_of}
 use Rattle.a64_asm.specs.Operand.{is_name}
 use Rattle.a64_asm.specs.Reading.{said_of}
@@ -65,9 +65,9 @@ abbrev pub is_repeated : ℕ → Option Definition → Bool
 is_repeated line None = false
 is_repeated line (Some first) = nat_lt first.line line
 
--- the word that a line says: of an instruction the one that decodes to it, which the fields of its row make
+-- the word that a line says: of an instruction the one that decodes to it
 abbrev pub word_said : Said → ℕ
-word_said (Instruction instr) = word_of instr
+word_said (Instruction instr) = encoded instr
 word_said (Raw word) = word
 
 -- 5: an image has a mebibyte at most

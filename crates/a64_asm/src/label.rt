@@ -8,9 +8,9 @@ ghost use Rattle.a64_asm.specs.Labels.{looked_up};
 ghost use Rattle.a64_asm.specs.Source.{label_of, is_blank, is_word, definition_at, next_of, definitions};
 
 use crate::error::AsmError;
-use crate::number::number;
 use crate::operand::Distance;
 use crate::text::cut_at;
+use numerals::number;
 use std::alloc::Global;
 use std::collections::BTreeMap;
 

@@ -1,5 +1,5 @@
 //! The listing: from the words of an image to their lines.
-ghost use Rattle.std.specs.Prelude.{◌≡◌, ◌^◌, ◌<◌, ◌++◌, false, true, IfOk, OnOk, MatchResult, length, IsTrue};
+ghost use Rattle.std.specs.Prelude.{◌≡◌, ◌^◌, ◌<◌, ◌++◌, if◌then◌else◌, None, Some, false, true, IfOk, OnOk, MatchResult, length, IsTrue};
 ghost use Rattle.std.specs.Fmt.{decimal};
 ghost use Rattle.a64_decode.specs.Lawful.{IsLawful};
 ghost use Rattle.a64_asm.specs.Number.{IsOffset};
@@ -43,18 +43,12 @@ fn push_form(out: &mut Vec<u8>, instr: &Instr) -> Result<bool, AllocError>
             if flags || shifted { Ok(false) } else { push_add(out, subtract, wide, imm12, rn, rd) }
         }
         Instr::AddSubShifted { wide, subtract, flags, shift, rm, amount, rn, rd } => {
-            if !flags && is_unshifted(shift, amount) {
-                push_registers(out, Mnemonic::AddSub { subtract }, wide, rm, rn, rd)
-            } else {
-                Ok(false)
-            }
+            let has_form = !flags && is_unshifted(shift, amount);
+            push_registers(out, has_form, Mnemonic::AddSub { subtract }, wide, rm, rn, rd)
         }
         Instr::LogicalShifted { wide, kind, shift, invert, rm, amount, rn, rd } => {
-            if !invert && is_named(kind) && is_unshifted(shift, amount) {
-                push_registers(out, Mnemonic::Logical(kind), wide, rm, rn, rd)
-            } else {
-                Ok(false)
-            }
+            let has_form = !invert && is_named(kind) && is_unshifted(shift, amount);
+            push_registers(out, has_form, Mnemonic::Logical(kind), wide, rm, rn, rd)
         }
         Instr::LoadStoreUnsigned { size, transfer, imm12, rn, rt } => push_access(out, size, transfer, imm12, rn, rt),
         Instr::Branch { link, offset } => push_branch(out, Mnemonic::Branch { link }, offset),
@@ -160,18 +154,22 @@ fn push_add(
     Ok(true)
 }
 
-/// `NAME D, N, M`
+/// `NAME D, N, M`, where the operation has a form.
 #[tactic(auto, unfolding(crate::specs::Listing::registers_text))]
 fn push_registers(
     out: &mut Vec<u8>,
+    has_form: bool,
     mnemonic: Mnemonic,
     wide: bool,
     rm: Reg,
     rn: Reg,
     rd: Reg,
 ) -> Result<bool, AllocError>
-    ensures { IfOk result (Pushes (Some (registers_text mnemonic wide rm rn rd)) out.old.items out.new.items) }
+    ensures { IfOk result (Pushes (if has_form then Some (registers_text mnemonic wide rm rn rd) else None) out.old.items out.new.items) }
 {
+    if !has_form {
+        return Ok(false);
+    }
     push_name(out, mnemonic)?;
     push_operand(out, false, wide, rd)?;
     push_operand(out, false, wide, rn)?;

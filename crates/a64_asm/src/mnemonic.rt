@@ -2,6 +2,7 @@
 ghost use Rattle.std.specs.Prelude.{◌≡◌, find};
 ghost use Rattle.std.specs.Str.{bytes_eq};
 ghost use Rattle.a64_asm.specs.Mnemonic.{name_of, branch_name, mnemonic_of};
+ghost use Rattle.a64_asm.specs.declared.mnemonic.Mnemonic.TheVariants.{Access};
 
 use a64_decode::{BranchKind, Condition, ExceptionKind, LogicalKind, MoveKind};
 
@@ -47,22 +48,7 @@ pub(crate) fn name(mnemonic: Mnemonic) -> &'static [u8]
         Mnemonic::Logical(LogicalKind::Orr) => b"orr",
         Mnemonic::Logical(LogicalKind::Eor) => b"eor",
         Mnemonic::Logical(LogicalKind::Ands) => b"ands",
-        Mnemonic::Access {
-            load: true,
-            byte: false,
-        } => b"ldr",
-        Mnemonic::Access {
-            load: false,
-            byte: false,
-        } => b"str",
-        Mnemonic::Access {
-            load: true,
-            byte: true,
-        } => b"ldrb",
-        Mnemonic::Access {
-            load: false,
-            byte: true,
-        } => b"strb",
+        Mnemonic::Access { load, byte } => access_name(load, byte),
         Mnemonic::Branch { link: false } => b"b",
         Mnemonic::Branch { link: true } => b"bl",
         Mnemonic::BranchIf(condition) => branch_name(condition),
@@ -80,6 +66,17 @@ pub(crate) fn name(mnemonic: Mnemonic) -> &'static [u8]
         Mnemonic::ExceptionReturn => b"eret",
         Mnemonic::Nop => b"nop",
         Mnemonic::Word => b".word",
+    }
+}
+
+fn access_name(load: bool, byte: bool) -> &'static [u8]
+    ensures { result.now ≡ name_of (Access load byte) }
+{
+    match (load, byte) {
+        (true, false) => b"ldr",
+        (false, false) => b"str",
+        (true, true) => b"ldrb",
+        (false, true) => b"strb",
     }
 }
 

@@ -1,36 +1,6 @@
-//! Numbers, as a line has them.
+//! Hexadecimal numbers, as a line has them.
 ghost use Rattle.std.specs.Prelude.{◌≡◌, ◌<◌, IsTrue};
-ghost use Rattle.a64_asm.specs.Number.{number_of, has_no_leading_zero, is_hex_digit, hex_digit_value, hex_word_of};
-
-/// The number that a text is, if it is a decimal one without leading zeros. One above 2^64 - 1 counts as that one.
-#[tactic(auto, using(crate::proofs::Numbers::digits_more, crate::proofs::Numbers::value_cut, crate::proofs::Numbers::not_a_number), unfolding(crate::specs::Number::number_of))]
-pub(crate) fn number(text: &[u8]) -> Option<u64>
-    ensures { result ≡ number_of text.now }
-{
-    if !has_no_leading_zero(text) {
-        return None;
-    }
-    let mut value = 0u64;
-    for byte in text {
-        if !byte.is_ascii_digit() {
-            return None;
-        }
-        value = value
-            .saturating_mul(10)
-            .saturating_add(u64::from(*byte - b'0'));
-    }
-    Some(value)
-}
-
-fn has_no_leading_zero(text: &[u8]) -> bool
-    ensures { result ≡ has_no_leading_zero text.now }
-{
-    match text {
-        [] => false,
-        [_] => true,
-        [first, ..] => *first != b'0',
-    }
-}
+ghost use Rattle.a64_asm.specs.Number.{is_hex_digit, hex_digit_value, hex_word_of};
 
 /// The word that eight hexadecimal digits in lower case are.
 #[tactic(auto, using(crate::proofs::Hex::digits_more, crate::proofs::Hex::value_more, crate::proofs::Hex::not_a_word), unfolding(crate::specs::Number::hex_word_of))]

@@ -3,10 +3,10 @@ ghost use Rattle.std.specs.Prelude.{◌≡◌, MatchOption};
 ghost use Rattle.a64_asm.specs.Operand.{Fewer, Three, triple_of, is_same, trio_of, base_of, offset_of, number_behind, numbers_of, three_numbers, system_numbers};
 ghost use Rattle.a64_asm.specs.Text.{cut_of};
 
-use crate::number::number;
 use crate::register::{Register, read_register};
 use crate::text::{cut_at, first_operand};
 use a64_decode::Reg;
+use numerals::number;
 
 /// Three registers of one width, in the order of a line.
 #[derive(Clone, Copy)]

@@ -8,7 +8,7 @@ ghost use Rattle.a64_asm.specs.Reading.{is_shift, moved, move_row, number_added,
 
 use crate::label::{Labels, target, words_to};
 use crate::mnemonic::{Mnemonic, read_mnemonic};
-use crate::number::{hex_word, number};
+use crate::number::hex_word;
 use crate::operand::{
     Numbers, Trio, base, is_same, make_trio, offset, system_numbers, three_operands,
 };
@@ -19,6 +19,7 @@ use a64_decode::{
     BranchKind, Condition, ExceptionKind, Instr, LogicalKind, MoveKind, Shift, Size, Transfer,
 };
 use bao_types::SysId;
+use numerals::number;
 
 /// What a line says that is the word of this place, else the first of the rules 1 to 3 that it breaks.
 #[tactic(auto, unfolding(crate::specs::Reading::said_of))]

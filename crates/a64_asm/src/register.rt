@@ -2,8 +2,8 @@
 ghost use Rattle.std.specs.Prelude.{◌≡◌};
 ghost use Rattle.a64_asm.specs.Register.{last_name, register_of, numbered, lettered};
 
-use crate::number::number;
 use a64_decode::Reg;
+use numerals::number;
 
 /// A register as a line names it.
 #[derive(Clone, Copy)]

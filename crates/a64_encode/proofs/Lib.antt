@@ -1,2 +1,2 @@
 mod Equal
-mod Made
+pub mod Made

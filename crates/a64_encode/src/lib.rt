@@ -4,9 +4,11 @@
 #![tactic(auto)]
 
 pub use encoding::encode;
+pub use law::an_instruction_has_one_word;
 
 mod code;
 mod encoding;
+mod law;
 #[cfg(test)]
 mod tests;
 mod word;

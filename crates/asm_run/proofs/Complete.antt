@@ -1,26 +1,21 @@
 -- Where the contents are told and nothing fails, the answer is what they rule.
 use Rattle.std.proofs.Common.{◌≡◌, ℕ, ◌-◌, ◌^◌, ◌<◌, List, refl, sym, ap, subst, ◌∙◌, arith, inl, inr}
 use Rattle.std.specs.Prelude.{Option, Some, ◌⊎◌}
-use Rattle.outside.specs.Faults.{risen}
+use Rattle.outside.specs.Shelf.{Files, IfHeld}
+use Rattle.outside.proofs.Told.{risen-other, held_fact}
 use Rattle.asm_run.specs.Words.{command_of}
-use Rattle.asm_run.specs.Call.{Files, Call, IfHeld}
+use Rattle.asm_run.specs.Call.{Call}
 use Rattle.asm_run.specs.Ruling.{Ruling, Made, Refused, rule_command, ruling}
 use Rattle.asm_run.specs.Outcome.{Outcome}
-use Rattle.asm_run.specs.Answers.{last_count, status_by, IsComplete, Answers}
+use Rattle.asm_run.specs.Answers.{status_by, IsComplete, Answers}
 use Rattle.asm_run.specs.declared.status.AsmStatus.{AsmStatus}
 use Rattle.asm_run.specs.declared.status.AsmStatus.TheVariants as status
 
--- a count below its last value rises
-rises : (before after : ℕ) → before < last_count → after ≡ risen before → after ≡ before → ⊥
-rises before after low rose same = omega (arith, rose, same, low)
-
 module _ (call : Call) (files : Files) (held : call.shelf.held ≡ Some files) where
-  ruled : (r : Ruling) → IfHeld call.shelf.held (λ fs. rule_command (command_of call.words) fs ≡ r) → ruling call.words files ≡ r
-  ruled r told = subst (λ h. IfHeld h (λ fs. rule_command (command_of call.words) fs ≡ r)) held told
-
   decided : (answer : AsmStatus) (r : Ruling) → status_by r ≡ answer → IfHeld call.shelf.held (λ fs. rule_command (command_of call.words) fs ≡ r)
       → (answer ≡ status_by (ruling call.words files)) ⊎ (answer ≡ status.OutOfMemory)
-  decided answer r is told = inl (sym (ap status_by (ruled r told) ∙ is))
+  decided answer r is told =
+      inl (sym (ap status_by (held_fact call.shelf.held files (λ fs. rule_command (command_of call.words) fs ≡ r) held told) ∙ is))
 
 pub complete : (call : Call) (answer : AsmStatus) → Outcome call answer → IsComplete call answer
 complete call status.Done outcome files held low read sink_low same =
@@ -28,11 +23,11 @@ complete call status.Done outcome files held low read sink_low same =
 complete call status.Usage outcome files held low read sink_low same =
     decided call files held status.Usage (Refused status.Usage) refl outcome.1.told
 complete call status.ReadFault outcome files held low read sink_low same =
-    absurd (rises call.shelf.before.faults call.shelf.after.faults low outcome.0.failed.0 read)
+    absurd (risen-other call.shelf.before.faults low (sym outcome.0.failed.0 ∙ read))
 complete call (status.TooLong limit) outcome files held low read sink_low same =
     decided call files held (status.TooLong limit) (Refused (status.TooLong limit)) refl outcome.0.told
 complete call status.WriteFault outcome files held low read sink_low same =
-    absurd (rises call.sink.faults_before call.sink.faults_after sink_low outcome.text.1 same)
+    absurd (risen-other call.sink.faults_before sink_low (sym outcome.text.1 ∙ same))
 complete call status.OutOfMemory outcome files held low read sink_low same = inr refl
 complete call (status.BadLine line rule) outcome files held low read sink_low same =
     decided call files held (status.BadLine line rule) (Refused (status.BadLine line rule)) refl outcome.0.told

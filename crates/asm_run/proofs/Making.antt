@@ -2,14 +2,16 @@
 use Rattle.std.proofs.Common.{◌≡◌, ℕ, ◌<◌, ◌≤◌, Bool, true, false, List, length, refl, sym, ap, subst, ◌∙◌, arith, inl, inr}
 use Rattle.std.specs.Prelude.{Option, None, Some, Result, Ok, Err, Vec, nat_lt, if◌then◌else◌, IsSomeAnd}
 use Rattle.std.specs.declared.alloc.Global.{Global}
-use Rattle.outside.specs.Shelf.{IfTold, IsFetched, Blames, Blame}
+use Rattle.outside.specs.Shelf.{Files, IfHeld, IfTold, IsFetched, Blames, Blame}
 use Rattle.outside.specs.declared.shelf.ShelfError.{ShelfError}
 use Rattle.outside.specs.declared.shelf.ShelfError.TheVariants as shelf
 use Rattle.std.proofs.lemmas.Bool.{lt-ltb}
 use Rattle.outside.specs.Sink.{Takes, HasCause}
+use Rattle.outside.specs.Use.{ShelfUse, SinkUse, IsFaultless, HasFailed, IsPut}
+use Rattle.outside.proofs.Told.{every, follows}
 use Rattle.outside.specs.declared.sink.SinkFailed.{SinkFailed}
 use Rattle.asm_run.specs.Words.{Command, Assemble, Show, Unknown, Names, command_of}
-use Rattle.asm_run.specs.Call.{Files, ShelfUse, SinkUse, Call, IfHeld, IsFaultless, HasFailed, IsPut}
+use Rattle.asm_run.specs.Call.{Call}
 use Rattle.asm_run.specs.Ruling.{Ruling, Made, Refused, source_limit, image_limit, rule_content, rule_command, rule_file}
 use Rattle.asm_run.specs.Outcome.{HasMade, IsRuled, HasFault, HasRunOut, Outcome}
 use Rattle.asm_run.specs.Status.{refusal_text}
@@ -19,17 +21,8 @@ use Rattle.asm_run.specs.declared.status.AsmStatus.TheVariants as status
 
 -- no words
 pub unknown : (shelf : ShelfUse) → IsFaultless shelf → IsMade Unknown shelf (Err status.Usage)
-unknown shelf read = (refl, record { told = by_held shelf.held; read = read })
-  where
-    by_held : (held : Option Files) → IfHeld held (λ files. rule_command Unknown files ≡ Refused status.Usage)
-    by_held None = tt
-    by_held (Some files) = refl
-
--- what is told of a file is told of what is ruled
-told_file : (held : Option Files) (name : List ℕ) (P : Option (List ℕ) → Type 0) (Q : Files → Type 0)
-    → ((files : Files) → P (files name) → Q files) → IfTold held name P → IfHeld held Q
-told_file None name P Q known told = tt
-told_file (Some files) name P Q known told = known files told
+unknown shelf read =
+    (refl, record { told = every shelf.held (λ files. rule_command Unknown files ≡ Refused status.Usage) (λ files. refl); read = read })
 
 module _ (command : Command) (use_of : ShelfUse) (name : List ℕ)
     (known : (files : Files) → rule_command command files ≡ rule_file command (files name)) where
@@ -37,7 +30,7 @@ module _ (command : Command) (use_of : ShelfUse) (name : List ℕ)
   told_by : (content : List ℕ) (ruled : Ruling) → rule_content command content ≡ ruled
       → IfTold use_of.held name (λ found. found ≡ Some content) → IfHeld use_of.held (λ files. rule_command command files ≡ ruled)
   told_by content ruled gives told =
-      told_file use_of.held name (λ found. found ≡ Some content) (λ files. rule_command command files ≡ ruled)
+      follows use_of.held (λ files. files name ≡ Some content) (λ files. rule_command command files ≡ ruled)
       (λ files e. known files ∙ ap (rule_file command) e ∙ gives) told
 
   long_content : (limit : ℕ) → ((content : List ℕ) → limit < length content → rule_content command content ≡ Refused (status.TooLong limit))
@@ -70,7 +63,7 @@ module _ (command : Command) (use_of : ShelfUse) (name : List ℕ)
   not_had limit shelf.TooLong named rule fetched blames =
       record {
         told =
-            told_file use_of.held name (λ found. IsSomeAnd found (λ bytes. limit < length bytes))
+            follows use_of.held (λ files. IsSomeAnd (files name) (λ bytes. limit < length bytes))
             (λ files. rule_command command files ≡ Refused (status.TooLong limit))
             (λ files long. known files ∙ long_content limit rule (files name) long) fetched;
         read = blames.0;

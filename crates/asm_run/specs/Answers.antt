@@ -1,14 +1,12 @@
 -- The contract of the top call: what its answer means, and what the answer must be.
-use Rattle.std.specs.Prelude.{◌≡◌, ℕ, ◌-◌, ◌^◌, ◌<◌, ◌⊎◌, Option, Some}
-use Rattle.asm_run.specs.Call.{Files, Call, IsFaultless}
+use Rattle.std.specs.Prelude.{◌≡◌, ◌<◌, ◌⊎◌, Some}
+use Rattle.outside.specs.Shelf.{Files}
+use Rattle.outside.specs.Use.{IsFaultless, last_count}
+use Rattle.asm_run.specs.Call.{Call}
 use Rattle.asm_run.specs.Ruling.{Ruling, Made, Refused, Missing, ruling}
 use Rattle.asm_run.specs.Outcome.{Outcome}
 use Rattle.asm_run.specs.declared.status.AsmStatus.{AsmStatus}
 use Rattle.asm_run.specs.declared.status.AsmStatus.TheVariants as status
-
--- the last value of a count of faults
-abbrev pub last_count : ℕ
-last_count = 2 ^ 64 - 1
 
 -- what the contents rule decides the answer
 abbrev pub status_by : Ruling → AsmStatus

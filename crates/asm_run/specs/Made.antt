@@ -1,10 +1,10 @@
 -- What is made before anything is written. No public clause cites this module.
 use Rattle.std.specs.Prelude.{◌≡◌, ℕ, List, Vec, Result, Ok, Err, ⊤}
 use Rattle.std.specs.declared.alloc.Global.{Global}
+use Rattle.outside.specs.Use.{ShelfUse, SinkUse, IsTaken, IsCut}
 use Rattle.outside.specs.declared.shelf.ShelfError.{ShelfError}
 use Rattle.outside.specs.declared.shelf.ShelfError.TheVariants.{TooLong, Failed, OutOfMemory}
 use Rattle.asm_run.specs.Words.{Command, Unknown}
-use Rattle.asm_run.specs.Call.{ShelfUse, SinkUse, IsTaken, IsCut}
 use Rattle.asm_run.specs.Ruling.{Made, Refused, rule_content}
 use Rattle.asm_run.specs.Outcome.{HasMade, IsRuled, HasFault, HasRunOut}
 use Rattle.asm_run.specs.declared.status.AsmStatus.{AsmStatus}

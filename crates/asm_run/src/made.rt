@@ -1,5 +1,6 @@
 //! What is made of a file, before anything is written.
 ghost use Rattle.std.specs.Prelude.{◌≡◌, ◌≤◌, ◌<◌, length, map, string_bytes};
+ghost use Rattle.outside.specs.Use.{shelf_use};
 ghost use Rattle.asm_run.specs.Words.{command_of, Assemble, Show};
 ghost use Rattle.asm_run.specs.Made.{IsMade, IsGiven, status_of};
 
@@ -22,11 +23,7 @@ pub(crate) fn make<S: Shelf>(
     words: &[String],
     shelf: &mut S,
 ) -> Result<Vec<u8>, AsmStatus>
-    ensures { IsMade (command_of (map string_bytes words.now)) (record {
-      held = S.held shelf.old;
-      before = record { faults = S.faults shelf.old; culprit = S.culprit shelf.old };
-      after = record { faults = S.faults shelf.new; culprit = S.culprit shelf.new };
-    }) result }
+    ensures { IsMade (command_of (map string_bytes words.now)) (shelf_use S.held S.faults S.culprit shelf.old shelf.new) result }
 {
     match read_words(words) {
         Command::Unknown => Err(AsmStatus::Usage),
@@ -37,11 +34,7 @@ pub(crate) fn make<S: Shelf>(
 
 /// The image of a source.
 fn make_image<S: Shelf>(alloc: Global, shelf: &mut S, file: &str) -> Result<Vec<u8>, AsmStatus>
-    ensures { IsMade (Assemble file.now) (record {
-      held = S.held shelf.old;
-      before = record { faults = S.faults shelf.old; culprit = S.culprit shelf.old };
-      after = record { faults = S.faults shelf.new; culprit = S.culprit shelf.new };
-    }) result }
+    ensures { IsMade (Assemble file.now) (shelf_use S.held S.faults S.culprit shelf.old shelf.new) result }
 {
     match shelf.fetch(alloc, file, SOURCE_LIMIT) {
         Ok(source) => image_of(alloc, &source, file),
@@ -63,11 +56,7 @@ fn image_of(alloc: Global, source: &[u8], file: &str) -> Result<Vec<u8>, AsmStat
 
 /// The listing of an image.
 fn make_listing<S: Shelf>(alloc: Global, shelf: &mut S, file: &str) -> Result<Vec<u8>, AsmStatus>
-    ensures { IsMade (Show file.now) (record {
-      held = S.held shelf.old;
-      before = record { faults = S.faults shelf.old; culprit = S.culprit shelf.old };
-      after = record { faults = S.faults shelf.new; culprit = S.culprit shelf.new };
-    }) result }
+    ensures { IsMade (Show file.now) (shelf_use S.held S.faults S.culprit shelf.old shelf.new) result }
 {
     match shelf.fetch(alloc, file, IMAGE_LIMIT) {
         Ok(image) => listing_of(alloc, &image, file),

@@ -1,8 +1,8 @@
 //! The top call.
 ghost use Rattle.std.specs.Prelude.{◌≡◌, map, string_bytes};
 ghost use Rattle.outside.specs.Sink.{Takes, HasCause};
+ghost use Rattle.outside.specs.Use.{IsPut, shelf_use, sink_use};
 ghost use Rattle.asm_run.specs.Status.{refusal_text};
-ghost use Rattle.asm_run.specs.Call.{IsPut};
 ghost use Rattle.asm_run.specs.Made.{IsShown};
 ghost use Rattle.asm_run.specs.Outcome.{Outcome};
 ghost use Rattle.asm_run.specs.Answers.{Answers};
@@ -24,17 +24,8 @@ pub fn run_asm<S: Shelf, K: Sink>(
 ) -> AsmStatus
     ensures { Answers (record {
       words = map string_bytes words.now;
-      shelf = record {
-        held = S.held shelf.old;
-        before = record { faults = S.faults shelf.old; culprit = S.culprit shelf.old };
-        after = record { faults = S.faults shelf.new; culprit = S.culprit shelf.new };
-      };
-      sink = record {
-        taken_before = K.taken sink.old;
-        taken_after = K.taken sink.new;
-        faults_before = K.faults sink.old;
-        faults_after = K.faults sink.new;
-      };
+      shelf = shelf_use S.held S.faults S.culprit shelf.old shelf.new;
+      sink = sink_use K.taken K.faults sink.old sink.new;
     }) result }
 {
     carry_out(alloc, words, shelf, sink)
@@ -49,17 +40,8 @@ fn carry_out<S: Shelf, K: Sink>(
 ) -> AsmStatus
     ensures { Outcome (record {
       words = map string_bytes words.now;
-      shelf = record {
-        held = S.held shelf.old;
-        before = record { faults = S.faults shelf.old; culprit = S.culprit shelf.old };
-        after = record { faults = S.faults shelf.new; culprit = S.culprit shelf.new };
-      };
-      sink = record {
-        taken_before = K.taken sink.old;
-        taken_after = K.taken sink.new;
-        faults_before = K.faults sink.old;
-        faults_after = K.faults sink.new;
-      };
+      shelf = shelf_use S.held S.faults S.culprit shelf.old shelf.new;
+      sink = sink_use K.taken K.faults sink.old sink.new;
     }) result }
 {
     match make(alloc, words, shelf) {
@@ -70,12 +52,7 @@ fn carry_out<S: Shelf, K: Sink>(
 
 /// Writes what was made.
 fn show<K: Sink>(sink: &mut K, bytes: &[u8]) -> AsmStatus
-    ensures { IsShown (record {
-      taken_before = K.taken sink.old;
-      taken_after = K.taken sink.new;
-      faults_before = K.faults sink.old;
-      faults_after = K.faults sink.new;
-    }) bytes.now result }
+    ensures { IsShown (sink_use K.taken K.faults sink.old sink.new) bytes.now result }
 {
     match sink.put(bytes) {
         Ok(()) => AsmStatus::Done,
@@ -86,12 +63,7 @@ fn show<K: Sink>(sink: &mut K, bytes: &[u8]) -> AsmStatus
 /// Writes the line of a refusal. That it is cut short changes nothing of the status.
 pub(crate) fn refuse<K: Sink>(sink: &mut K, status: AsmStatus) -> AsmStatus
     ensures same { result ≡ status }
-    ensures put { IsPut (record {
-      taken_before = K.taken sink.old;
-      taken_after = K.taken sink.new;
-      faults_before = K.faults sink.old;
-      faults_after = K.faults sink.new;
-    }) (refusal_text status) }
+    ensures put { IsPut (sink_use K.taken K.faults sink.old sink.new) (refusal_text status) }
 {
     let _put = put_refusal(sink, status);
     status

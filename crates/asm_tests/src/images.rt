@@ -1,6 +1,6 @@
-//! Whole images, and sources of many lines.
+//! Words that are drawn, sources of many lines, and lengths.
 
-use crate::told::{told, told_ends, told_listing};
+use crate::told::{digits, there_and_back, told_ends, told_listing};
 use std::alloc::{AllocError, Global};
 use std::process::Abort;
 
@@ -17,19 +17,10 @@ fn drawn(alloc: Global, seed: u64, count: usize) -> Result<Vec<u8>, AllocError> 
     Ok(image)
 }
 
-/// The digits of an image, and those that its listing gives.
-fn there_and_back(alloc: Global, image: &[u8]) -> Result<(String, String), AllocError> {
-    let mut digits = String::new(alloc);
-    for byte in image {
-        digits.push_str(format!(in alloc; "{byte:02x}")?.as_str())?;
-    }
-    let text = told_listing(alloc, image)?;
-    Ok((digits, told(alloc, text.as_bytes())?))
-}
-
 fn check_drawn(rt: &impl Abort, alloc: Global, seed: u64) -> Result<(), AllocError> {
-    let (digits, back) = there_and_back(alloc, &drawn(alloc, seed, 4096)?)?;
-    assert!(rt; digits.as_str() == back.as_str(), "seed {seed}");
+    let image = digits(alloc, &drawn(alloc, seed, 4096)?)?;
+    let back = there_and_back(alloc, image.as_str())?;
+    assert!(rt; back.as_str() == image.as_str(), "seed {seed}");
     Ok(())
 }
 
@@ -60,28 +51,39 @@ fn repeated(
 /// What begins the source, what is repeated how often, what ends it, and the answer.
 type Row = (&'static str, &'static str, u32, &'static str, &'static str);
 
-/// Labels at the greatest distances and one word past them. A line without a form counts as a word too.
+/// Labels at the greatest distance forward of each branch, and one word past it. Lines without a form count as words too,
+/// and so does what stands behind the limit of an image.
 #[rattlefmt::skip]
-static DISTANCES: [Row; 4] = [
+static DISTANCES: [Row; 6] = [
     ("cbz x0, there\n", "q\n", 262_142, "there:\n", "line 2 rule 1"),
     ("cbz x0, there\n", "q\n", 262_143, "there:\n", "line 1 rule 2"),
+    ("cbnz w0, there\n", "q\n", 262_142, "there:\n", "line 2 rule 1"),
+    ("cbnz w0, there\n", "q\n", 262_143, "there:\n", "line 1 rule 2"),
     ("b.eq there\n", "q\n", 262_142, "there:\n", "line 2 rule 1"),
     ("b.eq there\n", "q\n", 262_143, "there:\n", "line 1 rule 2"),
 ];
 
-/// An image of the greatest length, with a label at the greatest distance back, and one word past it.
+/// The same of the branches whose offset has 26 bits.
 #[rattlefmt::skip]
-static LIMITS: [Row; 3] = [
-    ("back:\n", "nop\n", 262_143, "cbnz w1, back\n", "1048576 1f2003d5 21008035"),
-    ("back:\n", "nop\n", 262_144, ";\n\nx:\ncbnz w1, back\n", "line 262149 rule 5"),
-    ("", "nop\n", 262_144, "b there\n", "line 262145 rule 3"),
-];
-
-/// The greatest distance of a branch whose offset has 26 bits. Its label stands behind the limit of an image.
-#[rattlefmt::skip]
-static FAR_LABELS: [Row; 2] = [
+static FAR_DISTANCES: [Row; 4] = [
+    ("b there\n", "q\n", 33_554_430, "there:\n", "line 2 rule 1"),
+    ("b there\n", "q\n", 33_554_431, "there:\n", "line 1 rule 2"),
     ("bl there\n", "q\n", 33_554_430, "there:\n", "line 2 rule 1"),
     ("bl there\n", "q\n", 33_554_431, "there:\n", "line 1 rule 2"),
+];
+
+/// An image of the greatest length, with a label at the greatest distance back that fits there, and what breaks a rule
+/// behind it: the limit alone, and another rule before it.
+#[rattlefmt::skip]
+static LIMITS: [Row; 8] = [
+    ("back:\n", "nop\n", 262_143, "cbnz w1, back\n", "1048576 1f2003d5 21008035"),
+    ("back:\n", "nop\n", 262_143, "b.le back\n;\n\nx:\n", "1048576 1f2003d5 2d008054"),
+    ("", "nop\n", 262_144, "nop\n", "line 262145 rule 5"),
+    ("back:\n", "nop\n", 262_144, ";\n\nx:\ncbnz w1, back\n", "line 262149 rule 5"),
+    ("", "nop\n", 262_144, "nop", "line 262145 rule 1"),
+    ("", "nop\n", 262_144, "q\n", "line 262145 rule 1"),
+    ("", "nop\n", 262_144, "movz x0, 65536, 0\n", "line 262145 rule 2"),
+    ("", "nop\n", 262_144, "b there\n", "line 262145 rule 3"),
 ];
 
 fn check_row(rt: &impl Abort, alloc: Global, row: &Row) -> Result<(), AllocError> {
@@ -101,16 +103,16 @@ fn distances(rt: HostRuntime) -> Result<(), AllocError> {
 }
 
 #[test]
-fn limits(rt: HostRuntime) -> Result<(), AllocError> {
-    for row in LIMITS.as_slice() {
+fn far_distances(rt: HostRuntime) -> Result<(), AllocError> {
+    for row in FAR_DISTANCES.as_slice() {
         check_row(&rt, rt.alloc(), row)?;
     }
     Ok(())
 }
 
 #[test]
-fn far_labels(rt: HostRuntime) -> Result<(), AllocError> {
-    for row in FAR_LABELS.as_slice() {
+fn limits(rt: HostRuntime) -> Result<(), AllocError> {
+    for row in LIMITS.as_slice() {
         check_row(&rt, rt.alloc(), row)?;
     }
     Ok(())

@@ -54,20 +54,35 @@ pub(crate) fn told_listing(alloc: Global, image: &[u8]) -> Result<String, AllocE
     }
 }
 
-/// The listing of bytes of two digits each.
-pub(crate) fn listed(alloc: Global, digits: &str) -> Result<String, AllocError> {
-    let mut image = Vec::new(alloc);
+/// The bytes that two digits each say.
+pub(crate) fn bytes_of(alloc: Global, digits: &str) -> Result<Vec<u8>, AllocError> {
+    let mut bytes = Vec::new(alloc);
     let mut high = None;
     for digit in digits.bytes() {
         match high {
             None => high = Some(digit),
             Some(first) => {
-                image.push(value_of(first) * 16 + value_of(digit))?;
+                bytes.push(value_of(first) * 16 + value_of(digit))?;
                 high = None;
             }
         }
     }
-    told_listing(alloc, &image)
+    Ok(bytes)
+}
+
+/// The listing of bytes of two digits each.
+pub(crate) fn listed(alloc: Global, digits: &str) -> Result<String, AllocError> {
+    told_listing(alloc, &bytes_of(alloc, digits)?)
+}
+
+/// The bytes, two digits each, that the listing of such bytes gives.
+pub(crate) fn there_and_back(alloc: Global, digits: &str) -> Result<String, AllocError> {
+    told(alloc, listed(alloc, digits)?.as_bytes())
+}
+
+/// A text with `~` for each end of a line, with those ends.
+pub(crate) fn with_ends(alloc: Global, text: &str) -> Result<String, AllocError> {
+    text.replace(alloc, '~', "\n")
 }
 
 /// The value of a hexadecimal digit, 0 for another byte.

@@ -11,7 +11,7 @@ ghost use Rattle.std.specs.Prelude.{◌≡◌, [], IfErr, IsTrue};
 ghost use Rattle.std.specs.Process.{exit_status};
 ghost use Rattle.report.specs.declared.status.Status.{Status};
 ghost use Rattle.report.specs.Status.{is_refusal, number_of, refusal_text};
-ghost use Rattle.bao_run.specs.Call.{IsPut};
+ghost use Rattle.outside.specs.Use.{IsPut, sink_use};
 
 use outside::{FileShelf, OutSink, Sink, WorkingDirectory};
 use report::{Status, write_refusal};
@@ -57,12 +57,7 @@ fn read_words(rt: &(impl Env + AllocGlobal)) -> Result<Vec<String>, Status>
 pub fn refuse<K: Sink>(sink: &mut K, status: &Status) -> ExitCode
     requires { IsTrue (is_refusal status.now) }
     ensures status { exit_status result ≡ number_of status.now }
-    ensures line { IsPut (record {
-      taken_before = K.taken sink.old;
-      taken_after = K.taken sink.new;
-      faults_before = K.faults sink.old;
-      faults_after = K.faults sink.new;
-    }) (refusal_text status.now) }
+    ensures line { IsPut (sink_use K.taken K.faults sink.old sink.new) (refusal_text status.now) }
 {
     let _ = write_refusal(sink, status);
     ExitCode::from(status.number())

@@ -1,4 +1,5 @@
 ghost use Rattle.std.specs.Prelude.{◌≡◌, map, string_bytes, IfErr, IfOk};
+ghost use Rattle.outside.specs.Use.{shelf_use, sink_use};
 ghost use Rattle.bao_command.specs.Played.{IsPlayed};
 
 use bao_run::run_bao;
@@ -35,17 +36,8 @@ pub fn play<S: Shelf, K: Sink>(
 ) -> Result<Outcome, AllocError>
     ensures played { IfOk result (λ outcome. IsPlayed (λ board. record {
       words = map string_bytes words.now;
-      shelf = record {
-        held = S.held shelf.old;
-        before = record { faults = S.faults shelf.old; culprit = S.culprit shelf.old };
-        after = record { faults = S.faults shelf.new; culprit = S.culprit shelf.new };
-      };
-      sink = record {
-        taken_before = K.taken sink.old;
-        taken_after = K.taken sink.new;
-        faults_before = K.faults sink.old;
-        faults_after = K.faults sink.new;
-      };
+      shelf = shelf_use S.held S.faults S.culprit shelf.old shelf.new;
+      sink = sink_use K.taken K.faults sink.old sink.new;
       board = board;
     }) outcome.status outcome.entered) }
     ensures shelf { IfErr result (λ error. shelf.new ≡ shelf.old) }

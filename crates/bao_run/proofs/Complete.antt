@@ -1,25 +1,20 @@
 -- The contract of the top call follows from what its answer means.
 use Rattle.std.proofs.Common.{◌≡◌, ◌≢◌, ℕ, ◌<◌, refl, sym, ap, ◌∙◌, inl, inr, subst, arith}
 use Rattle.std.specs.Prelude.{Option, Some, ◌⊎◌}
-use Rattle.outside.specs.Faults.{risen}
+use Rattle.outside.specs.Shelf.{Files, IfHeld}
 use Rattle.outside.specs.Sink.{grown}
+use Rattle.outside.specs.Use.{last_count}
+use Rattle.outside.proofs.Told.{risen-other, held_fact}
 use Rattle.report.specs.declared.status.Part.TheVariants as part
 use Rattle.report.specs.declared.status.Status.{Status}
 use Rattle.report.specs.declared.status.Status.TheVariants as status
 use Rattle.bao_run.specs.Words.{Command, Run, Check, Generate, Unknown, Plays, IsCheck, command_of}
-use Rattle.bao_run.specs.Call.{Files, Call}
+use Rattle.bao_run.specs.Call.{Call}
 use Rattle.bao_run.specs.Ruling.{Ruling, Refused, Missing, Shown, Accept, ruling}
-use Rattle.bao_run.specs.Input.{IfHeld, lacking}
+use Rattle.bao_run.specs.Input.{lacking}
 use Rattle.bao_run.specs.Outcome.{Outcome, IsIsolated, IsRuled, ForSomeInput}
-use Rattle.bao_run.specs.Answers.{Answers, IsReadWell, last_count, status_by, status_after}
+use Rattle.bao_run.specs.Answers.{Answers, IsReadWell, status_by, status_after}
 use Rattle.bao_run.proofs.Alone.{ending-alone}
-
--- a count below its last value that has risen is another
-risen-other : (before : ℕ) → before < last_count → risen before ≢ before
-risen-other before low same = omega arith
-
-held_fact : (held : Option Files) (files : Files) (P : Files → Type 0) → held ≡ Some files → IfHeld held P → P files
-held_fact held files P e h = let P' : Option Files → Type 0 = λ o. IfHeld o P in subst P' e h
 
 -- what runs a board is no check
 not_both : (command : Command) → Plays command → IsCheck command → ⊥

@@ -7,16 +7,15 @@ use Rattle.std.proofs.lemmas.Bool.Decides.{nat_tests}
 use Rattle.std.proofs.lemmas.Option.{slice_get-map}
 use Rattle.bao_config.specs.Data.{ConfigData, VmData}
 use Rattle.outside.specs.Faults.{risen}
-use Rattle.outside.specs.Shelf.{Blame, IfTold}
+use Rattle.outside.specs.Shelf.{Blame, Files, IfHeld, IfTold}
 use Rattle.report.specs.declared.status.FileId.{FileId}
 use Rattle.report.specs.declared.status.FileId.TheVariants as file
 use Rattle.report.specs.declared.status.Status.{Status}
 use Rattle.report.specs.declared.status.Status.TheVariants as status
 use Rattle.vm_model.specs.Apart.{FitRooms}
 use Rattle.bao_run.specs.Words.{Run, same}
-use Rattle.bao_run.specs.Call.{Files}
 use Rattle.bao_run.specs.Ruling.{Ruling, Refused, image_limit, rule_image, rule_images}
-use Rattle.bao_run.specs.Input.{IfHeld, IsFetch, Named, files_of, first_named, image_names}
+use Rattle.bao_run.specs.Input.{IsFetch, Named, files_of, first_named, image_names}
 use Rattle.bao_run.specs.Reading.{AreImages, HasCome, IsImagesAnswer}
 use Rattle.bao_run.proofs.Rules.{same_itself}
 
@@ -187,10 +186,6 @@ module _ (held : Option Files) (start now new : Blame) (config schedule : List �
       λ next. long_image files next 0 cfg.vms images vm (length images) h is (omega arith) long
       ∙ ap (λ id. Refused (status.TooLong id (image_limit vm))) (sym here) ∙ ap (λ limit. Refused (status.TooLong id limit)) (sym most)
 
-  as_told : (o : Option Files) (P : Option (List ℕ) → Type 0) → IfTold o vm.image P → IfHeld o (λ files. P (files vm.image))
-  as_told None P h = tt
-  as_told (Some files) P h = h
-
   pub image_refused : (answer : Status)
       → IsFetch (record { held = held; before = now; after = new })
       (record { file = file.Image (length images); blamed = blamed; name = vm.image; limit = image_limit vm }) (Err answer)
@@ -204,7 +199,7 @@ module _ (held : Option Files) (start now new : Blame) (config schedule : List �
     come = has_come held come;
   }
   image_refused (status.TooLong id limit) (long, here, most, faultless) = (
-    is_long held come (as_told held (λ content. IsSomeAnd content (λ bytes. image_limit vm < length bytes)) long) id limit here most,
+    is_long held come long id limit here most,
     faultless ∙ same_faults,
   )
   image_refused status.BadToml h = absurd h
@@ -214,8 +209,3 @@ module _ (held : Option Files) (start now new : Blame) (config schedule : List �
   image_refused status.WriteFault h = absurd h
   image_refused status.OutOfMemory h = h ∙ same_faults
   image_refused (status.NotBuilt part) h = absurd h
-
--- what is told of a name, as a fact on the files
-pub told_content : (held : Option Files) (name : List ℕ) (P : Option (List ℕ) → Type 0) → IfTold held name P → IfHeld held (λ files. P (files name))
-told_content None name P h = tt
-told_content (Some files) name P h = h

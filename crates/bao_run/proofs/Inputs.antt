@@ -6,14 +6,15 @@ use Rattle.std.proofs.Math.ListN.{drop_of_length-le}
 use Rattle.std.proofs.lemmas.Bool.Decides.{nat_tests}
 use Rattle.bao_config.specs.Data.{ConfigData, VmData}
 use Rattle.outside.specs.Faults.{risen}
-use Rattle.outside.specs.Shelf.{Blame, IfTold}
+use Rattle.outside.specs.Shelf.{Blame, Files, IfHeld, IfTold}
+use Rattle.outside.specs.Use.{ShelfUse, IsFaultless}
+use Rattle.outside.proofs.Told.{every, follows, both}
 use Rattle.report.specs.declared.status.FileId.{FileId}
 use Rattle.report.specs.declared.status.FileId.TheVariants as file
 use Rattle.report.specs.declared.status.Status.{Status}
 use Rattle.report.specs.declared.status.Status.TheVariants as status
 use Rattle.vm_create.specs.Boot.{ArePlans}
 use Rattle.bao_run.specs.Words.{Command, Run, Check, same}
-use Rattle.bao_run.specs.Call.{Files, ShelfUse, IsFaultless}
 use Rattle.schedule.specs.Answer.{TellsBroken}
 use Rattle.schedule.specs.Schedule.{Events, schedule_of}
 use Rattle.schedule.specs.declared.error.ScheduleError.{ScheduleError}
@@ -22,23 +23,10 @@ use Rattle.hypervisor.specs.declared.event.Event.{Event}
 use Rattle.bao_run.specs.Ruling.{Ruling, Refused, Missing, Shown, Accept, rule_command, rule_config, rule_check, rule_run, rule_files, rule_images, rule_schedule, rule_events, schedule_limit}
 use Rattle.hypervisor.specs.Event.{flat_event}
 use Rattle.bao_run.specs.declared.config.Packed.{Packed}
-use Rattle.bao_run.specs.Input.{IfHeld, IsFetch, IsCheckAnswer, IsRefused, IsRuledBy, Named, files_of, first_named, lacking}
+use Rattle.bao_run.specs.Input.{IsFetch, IsCheckAnswer, IsRefused, IsRuledBy, Named, files_of, first_named, lacking}
 use Rattle.bao_run.specs.Reading.{HoldsConfig, IsConfigAnswer, AreImages, HasCome, IsImagesAnswer, IsPackedAnswer, IsPackable, schedule_status}
 use Rattle.bao_run.proofs.Rules.{config_passes, images_pass, same_itself, IsNext, names, missed, is_next, at_schedule}
 use Rattle.bao_run.proofs.Fetches.{schedule_told}
-
-every : (held : Option Files) (P : Files → Type 0) → ((files : Files) → P files) → IfHeld held P
-every None P all = tt
-every (Some files) P all = all files
-
-pub follows : (held : Option Files) (P Q : Files → Type 0) → ((files : Files) → P files → Q files) → IfHeld held P → IfHeld held Q
-follows None P Q step h = tt
-follows (Some files) P Q step h = step files h
-
-pub both : (held : Option Files) (P Q R : Files → Type 0) → ((files : Files) → P files → Q files → R files) → IfHeld held P → IfHeld held Q
-    → IfHeld held R
-both None P Q R step p q = tt
-both (Some files) P Q R step p q = step files p q
 
 -- some configuration; of a fault at the configuration's own name none is known
 no_config : ConfigData
@@ -232,10 +220,6 @@ module _ (shelf : ShelfUse) (config schedule : List ℕ) (cfg : ConfigData) (hol
             (λ files it p. schedule_rules files it p.0 ∙ step files p.1) holds
             (both shelf.held (λ files. AreImages files cfg.vms images) P (λ files. AreImages files cfg.vms images × P files) (λ files come p. (come, p)) told told')
 
-        as_told : (o : Option Files) (P : Option (List ℕ) → Type 0) → IfTold o schedule P → IfHeld o (λ files. P (files schedule))
-        as_told None P h = tt
-        as_told (Some files) P h = h
-
         long_schedule : (content : Option (List ℕ)) → IsSomeAnd content (λ bytes. schedule_limit < length bytes)
             → rule_schedule cfg images content ≡ Refused (status.TooLong file.Schedule schedule_limit)
         long_schedule None h = absurd h
@@ -264,7 +248,7 @@ module _ (shelf : ShelfUse) (config schedule : List ℕ) (cfg : ConfigData) (hol
         schedule_refused blamed at (status.TooLong id limit) h =
             let P : Files → Type 0 = λ files. IsSomeAnd (files schedule) (λ bytes. schedule_limit < length bytes) in (
               by_schedule P (Refused (status.TooLong id limit))
-                  (as_told shelf.held (λ content. IsSomeAnd content (λ bytes. schedule_limit < length bytes)) h.0)
+                  h.0
                   (λ files long. long_schedule (files schedule) long
                   ∙ ap (λ id. Refused (status.TooLong id schedule_limit)) (sym h.1) ∙ ap (λ limit. Refused (status.TooLong id limit)) (sym h.2)),
               h.3 ∙ same_faults,
@@ -282,7 +266,7 @@ module _ (shelf : ShelfUse) (config schedule : List ℕ) (cfg : ConfigData) (hol
             (faultless : IsFaultless shelf) where
           by_bytes : (decided : Ruling) → rule_events cfg images (schedule_of cfg bytes) ≡ decided → IsRuledBy whole (Run config schedule) decided
           by_bytes decided is = (
-            by_schedule (λ files. files schedule ≡ Some bytes) decided (as_told shelf.held (λ content. content ≡ Some bytes) content)
+            by_schedule (λ files. files schedule ≡ Some bytes) decided content
                 (λ files held.
                 let few : nat_lt schedule_limit (length bytes) ≡ false = grind (arith, nat_tests) in rw (held, few) is),
             faultless ∙ same_faults,

@@ -1,4 +1,3 @@
-pub mod Numbers
 pub mod Rules
 pub mod Packs
 pub mod Fetches

@@ -2,6 +2,9 @@
 use Rattle.std.proofs.Common.{◌≡◌, ℕ, List, refl, sym, subst, ap, ◌∙◌, inl, inr, false}
 use Rattle.std.specs.Prelude.{Option, None, Some}
 use Rattle.bao_wellformed.specs.Checked.{checked_data}
+use Rattle.outside.specs.Shelf.{Files, IfHeld}
+use Rattle.outside.specs.Use.{IsFaultless, IsPut}
+use Rattle.outside.proofs.Told.{every}
 use Rattle.report.specs.declared.status.Part.TheVariants as part
 use Rattle.report.specs.declared.status.Status.{Status}
 use Rattle.report.specs.declared.status.Status.TheVariants as status
@@ -9,18 +12,13 @@ use Rattle.report.specs.Section.{report}
 use Rattle.report.specs.Summary.{summary}
 use Rattle.report.specs.Status.{refusal_text}
 use Rattle.bao_run.specs.Words.{Command, Run, Check, Generate, Unknown, IsCommand, Reads, IsCheck, command_of}
-use Rattle.bao_run.specs.Call.{Files, Call, InputData, IsFaultless, IsPut}
+use Rattle.bao_run.specs.Call.{Call, InputData}
 use Rattle.bao_run.specs.Ruling.{Refused, Accept, rule_command, ruling}
-use Rattle.bao_run.specs.Input.{CanPlay, IfHeld, IsRefused, IsRuledBy, IsInput, IsShown, IsWorkload, input_data}
+use Rattle.bao_run.specs.Input.{CanPlay, IsRefused, IsRuledBy, IsInput, IsShown, IsWorkload, input_data}
 use Rattle.bao_run.specs.Play.{IsPlayed, IsShowing}
 use Rattle.bao_run.specs.Outcome.{Outcome, IsAccepted, IsOf, IsRunnable, IsRuled, ending}
 use Rattle.bao_run.specs.declared.config.Packed.{Packed}
 use Rattle.bao_run.specs.declared.input.Input.{Input}
-
--- a fact on all files
-every : (held : Option Files) (P : Files → Type 0) → ((files : Files) → P files) → IfHeld held P
-every None P all = tt
-every (Some files) P all = all files
 
 reads_command : (command : Command) → Reads command → IsCommand command
 reads_command (Run config schedule) reads = tt

@@ -10,7 +10,7 @@ use Rattle.report.specs.declared.status.FileId.{FileId}
 use Rattle.report.specs.declared.status.FileId.TheVariants as file
 use Rattle.report.specs.declared.status.Status.TheVariants as status
 use Rattle.bao_run.specs.Words.{same}
-use Rattle.bao_run.specs.Call.{Files}
+use Rattle.outside.specs.Shelf.{Files}
 use Rattle.bao_run.specs.Ruling.{Ruling, Refused, Missing, config_limit, image_limit, rule_config, rule_packing, rule_image, rule_images}
 use Rattle.bao_run.specs.Input.{Named, image_names, first_named, lacking}
 use Rattle.bao_run.specs.Reading.{HoldsConfig, AreImages}

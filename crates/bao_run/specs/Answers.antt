@@ -1,18 +1,16 @@
 -- The contract of the top call: what its answer means, that the VMs are isolated, and what the answer must be.
-use Rattle.std.specs.Prelude.{◌≡◌, ℕ, ◌-◌, ◌^◌, ◌<◌, ◌⊎◌, Option, None, Some}
+use Rattle.std.specs.Prelude.{◌≡◌, ℕ, ◌<◌, ◌⊎◌, Option, None, Some}
+use Rattle.outside.specs.Shelf.{Files}
+use Rattle.outside.specs.Use.{IsFaultless, last_count}
 use Rattle.report.specs.declared.status.Part.TheVariants as part
 use Rattle.report.specs.declared.status.Status.{Status}
 use Rattle.report.specs.declared.status.Status.TheVariants as status
 use Rattle.bao_run.specs.Words.{Plays, command_of}
-use Rattle.bao_run.specs.Call.{Files, Call, IsFaultless}
+use Rattle.bao_run.specs.Call.{Call}
 use Rattle.bao_run.specs.Ruling.{Ruling, Refused, Missing, Shown, Accept, ruling}
 use Rattle.bao_run.specs.Input.{lacking}
 use Rattle.bao_run.specs.Play.{first_halt}
 use Rattle.bao_run.specs.Outcome.{Outcome, IsIsolated, ForSomeInput}
-
--- the last value of a count of faults
-abbrev pub last_count : ℕ
-last_count = 2 ^ 64 - 1
 
 -- the shelf's faults didn't rise, or the last one was at a name that doesn't matter: the contents would rule the same without it
 abbrev pub IsReadWell : Call → Files → Type 0

@@ -3,7 +3,8 @@ use Rattle.std.specs.Prelude.{◌≡◌, ◌<◌, ◌≤◌, ◌+◌, ℕ, List,
 use Rattle.std.specs.declared.alloc.Global.{Global}
 use Rattle.std.specs.Option.{option_map}
 use Rattle.bao_types.specs.Shape.{event_limit}
-use Rattle.outside.specs.Shelf.{IfTold}
+use Rattle.outside.specs.Shelf.{Files, IfHeld, IfTold}
+use Rattle.outside.specs.Use.{ShelfUse, IsFaultless, HasFailed}
 use Rattle.bao_config.specs.Data.{ConfigData, VmData}
 use Rattle.bao_wellformed.specs.Checked.{checked_data}
 use Rattle.report.specs.declared.status.FileId.{FileId}
@@ -16,16 +17,11 @@ use Rattle.hypervisor.specs.Event.{IsPlaced}
 use Rattle.vm_model.specs.Apart.{FitRooms}
 use Rattle.vm_create.specs.Boot.{ArePlans}
 use Rattle.bao_run.specs.Words.{Command, Run, Check, Generate, Unknown, IsRun, same}
-use Rattle.bao_run.specs.Call.{InputData, Files, ShelfUse, IsFaultless, HasFailed}
+use Rattle.bao_run.specs.Call.{InputData}
 use Rattle.bao_run.specs.Ruling.{Ruling, Refused, Missing, Shown, Accept, rule_command, workload}
 use Rattle.hypervisor.specs.Event.{flat_event}
 use Rattle.bao_run.specs.declared.input.Input.{Input}
 use Rattle.bao_run.specs.declared.config.Packed.{Packed}
-
--- a fact on the files, where the shelf tells them
-abbrev pub IfHeld : Option Files → (Files → Type 0) → Type 0
-IfHeld None P = ⊤
-IfHeld (Some files) P = P files
 
 -- a file with its name
 abbrev pub Named : Type 0

@@ -12,16 +12,18 @@ use Rattle.report.specs.Packing.{packing_text}
 use Rattle.report.specs.Section.{report, section}
 use Rattle.report.specs.Summary.{summary, summary_at}
 use Rattle.report.specs.Status.{refusal_text}
+use Rattle.outside.specs.Shelf.{IfHeld}
 use Rattle.outside.specs.Sink.{grown}
+use Rattle.outside.specs.Use.{SinkUse, IsFaultless, IsTaken, IsCut, IsPut}
 use Rattle.vm_model.specs.Apart.{FitRooms}
 use Rattle.vm_model.specs.Flat.{Flat}
 use Rattle.vm_model.specs.Lone.{only, lone}
 use Rattle.hypervisor.specs.Event.{flat_event}
 use Rattle.hypervisor.specs.declared.event.Event.{Event}
 use Rattle.bao_run.specs.Words.{Command, Run, Check, Generate, Unknown, IsCommand, Reads, IsRun, IsCheck, command_of}
-use Rattle.bao_run.specs.Call.{InputData, SinkUse, Call, IsFaultless, IsTaken, IsCut, IsPut}
+use Rattle.bao_run.specs.Call.{InputData, Call}
 use Rattle.bao_run.specs.Ruling.{Refused, Shown, Accept, ruling, workload}
-use Rattle.bao_run.specs.Input.{IfHeld, IsFaultAt}
+use Rattle.bao_run.specs.Input.{IsFaultAt}
 use Rattle.hypervisor.specs.Packed.{packings}
 use Rattle.bao_run.specs.Schedule.{IsSpelled}
 use Rattle.bao_run.specs.Play.{Text, IsUnfitted, IsPlayed}

@@ -1,5 +1,6 @@
 -- What the parts of a run answer, between the reading of the files and the report.
 use Rattle.std.specs.Prelude.{◌≡◌, ℕ, true, false, List, Option, None, Some, length}
+use Rattle.outside.specs.Use.{SinkUse, IsTaken, IsCut, IsPut}
 use Rattle.report.specs.declared.status.Part.TheVariants as part
 use Rattle.report.specs.declared.status.Status.{Status}
 use Rattle.report.specs.declared.status.Status.TheVariants as status
@@ -10,7 +11,7 @@ use Rattle.board.specs.Machine.{Machine}
 use Rattle.vm_model.specs.Flat.{Flat, flat_run, entered_count, first_unbuilt}
 use Rattle.vm_model.specs.Boot.{boot}
 use Rattle.vm_model.specs.Project.{project}
-use Rattle.bao_run.specs.Call.{InputData, SinkUse, BoardUse, IsTaken, IsCut, IsPut}
+use Rattle.bao_run.specs.Call.{InputData, BoardUse}
 use Rattle.hypervisor.specs.Shape.{shape_of}
 use Rattle.hypervisor.specs.Packed.{ArePacked, all_filled, packings}
 

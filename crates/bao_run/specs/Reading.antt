@@ -18,9 +18,10 @@ use Rattle.schedule.specs.declared.error.ScheduleError.TheVariants as schedule_e
 use Rattle.vm_model.specs.Apart.{FitRooms}
 use Rattle.vm_create.specs.Boot.{ArePlans}
 use Rattle.bao_run.specs.Words.{Run}
-use Rattle.bao_run.specs.Call.{Files, ShelfUse, IsFaultless, HasFailed}
+use Rattle.outside.specs.Shelf.{Files, IfHeld}
+use Rattle.outside.specs.Use.{ShelfUse, IsFaultless, HasFailed}
 use Rattle.bao_run.specs.Ruling.{Ruling, Refused, config_limit, image_limit, rule_config, rule_packing, rule_images}
-use Rattle.bao_run.specs.Input.{IfHeld, files_of, first_named}
+use Rattle.bao_run.specs.Input.{files_of, first_named}
 use Rattle.bao_run.specs.declared.config.Packed.{Packed}
 
 -- the contents have a text of this name that spells the configuration, and it is well formed

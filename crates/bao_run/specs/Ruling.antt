@@ -15,7 +15,8 @@ use Rattle.mpu_packer.specs.Runs.{core_runs}
 use Rattle.schedule.specs.Schedule.{ScheduleAnswer, Events, Broken, schedule_of}
 use Rattle.schedule.specs.Workload.{workload_config, workload_events, workload_images}
 use Rattle.bao_run.specs.Words.{Command, Run, Check, Generate, Unknown, command_of}
-use Rattle.bao_run.specs.Call.{InputData, Files}
+use Rattle.outside.specs.Shelf.{Files}
+use Rattle.bao_run.specs.Call.{InputData}
 use Rattle.hypervisor.specs.Event.{flat_event}
 
 -- a refusal, a file that is missing, a configuration whose packing is to be shown, or an input to run

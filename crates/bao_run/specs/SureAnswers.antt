@@ -1,10 +1,12 @@
 -- What the top call must answer over a shelf that never fails.
 use Rattle.std.specs.Prelude.{◌≡◌, ◌<◌, ◌⊎◌, Some}
+use Rattle.outside.specs.Shelf.{Files}
+use Rattle.outside.specs.Use.{last_count}
 use Rattle.report.specs.declared.status.Status.{Status}
 use Rattle.report.specs.declared.status.Status.TheVariants as status
-use Rattle.bao_run.specs.Call.{Files, Call}
+use Rattle.bao_run.specs.Call.{Call}
 use Rattle.bao_run.specs.Ruling.{ruling}
-use Rattle.bao_run.specs.Answers.{last_count, status_by}
+use Rattle.bao_run.specs.Answers.{status_by}
 
 -- where the contents are told and the sink doesn't fail, the answer is what they rule, want of memory aside
 abbrev pub IsSurelyComplete : Call → Status → Type 0

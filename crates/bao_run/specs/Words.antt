@@ -1,8 +1,7 @@
 -- The words of the command line.
-use Rattle.std.specs.Prelude.{ℕ, ◌+◌, ◌-◌, ◌*◌, ◌^◌, ◌==◌, ◌&&◌, nat_lt, not, Bool, true, false, if◌then◌else◌, List, [], ◌∷◌, Option, None, Some, codes, fold, ⊤}
+use Rattle.std.specs.Prelude.{ℕ, ◌^◌, ◌==◌, nat_lt, Bool, if◌then◌else◌, List, [], ◌∷◌, Option, None, Some, codes, ⊤}
 use Rattle.std.specs.Cmp.Lexicographic.{pointwise}
-use Rattle.std.specs.List.{list_all}
-use Rattle.std.specs.Char.{is_ascii_digit}
+use Rattle.numerals.specs.Numeral.{number_of}
 
 -- the words name a configuration and a schedule to run, or a configuration to check, or the number of a workload to run, or nothing
 pub data Command : Type 0 where
@@ -46,23 +45,10 @@ IsCheck Unknown = ⊥
 abbrev pub same : List ℕ → List ℕ → Bool
 same = pointwise ◌==◌
 
--- the number that decimal digits are
-abbrev pub value_of : List ℕ → ℕ
-value_of digits = fold (λ value digit. value * 10 + (digit - 48)) 0 digits
-
--- more digits than one don't begin with 0
-abbrev pub has_no_leading_zero : List ℕ → Bool
-has_no_leading_zero [] = false
-has_no_leading_zero (digit ∷ []) = true
-has_no_leading_zero (first ∷ second ∷ digits) = not (first == 48)
-
--- a decimal number from 0 to 2^32 - 1, without leading zeros
-abbrev pub is_number : List ℕ → Bool
-is_number text = has_no_leading_zero text && (list_all is_ascii_digit text && nat_lt (value_of text) (2 ^ 32))
-
--- the number that a text is, if it is one
-abbrev pub number_of : List ℕ → Option ℕ
-number_of text = if is_number text then Some (value_of text) else None
+-- a number of 32 bits
+abbrev pub word_number : Option ℕ → Option ℕ
+word_number None = None
+word_number (Some number) = if nat_lt number (2 ^ 32) then Some number else None
 
 -- `gen` with a number
 abbrev pub generated : Option ℕ → Command
@@ -74,6 +60,6 @@ abbrev pub command_of : List (List ℕ) → Command
 command_of [] = Unknown
 command_of (verb ∷ []) = Unknown
 command_of (verb ∷ word ∷ []) =
-    if same verb (codes "check") then Check word else if same verb (codes "gen") then generated (number_of word) else Unknown
+    if same verb (codes "check") then Check word else if same verb (codes "gen") then generated (word_number (number_of word)) else Unknown
 command_of (verb ∷ config ∷ schedule ∷ []) = if same verb (codes "run") then Run config schedule else Unknown
 command_of (verb ∷ config ∷ schedule ∷ other ∷ rest) = Unknown

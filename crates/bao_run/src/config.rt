@@ -1,4 +1,5 @@
 ghost use Rattle.std.specs.Prelude.{◌≡◌, ◌+◌, ◌<◌, IfOk, IfErr, length};
+ghost use Rattle.outside.specs.Use.{shelf_use};
 ghost use Rattle.bao_wellformed.specs.Checked.{checked_data};
 ghost use Rattle.report.specs.declared.status.Status.{Status};
 ghost use Rattle.vm_create.specs.Boot.{ArePlans};
@@ -26,11 +27,7 @@ pub struct Packed {
 /// Reads the configuration of this name.
 pub fn read_checked<S: Shelf>(alloc: Global, shelf: &mut S, config: &str) -> Result<Checked, Status>
     ensures held { S.held shelf.new ≡ S.held shelf.old }
-    ensures answer { IsConfigAnswer (record {
-      held = S.held shelf.old;
-      before = record { faults = S.faults shelf.old; culprit = S.culprit shelf.old };
-      after = record { faults = S.faults shelf.new; culprit = S.culprit shelf.new };
-    }) config.now result }
+    ensures answer { IsConfigAnswer (shelf_use S.held S.faults S.culprit shelf.old shelf.new) config.now result }
 {
     let file = FileId::Config;
     let text = fetch(alloc, shelf, file, file, config, CONFIG_LIMIT)?;

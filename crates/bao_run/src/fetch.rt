@@ -1,4 +1,5 @@
 ghost use Rattle.std.specs.Prelude.{◌≡◌, ◌≤◌};
+ghost use Rattle.outside.specs.Use.{shelf_use};
 ghost use Rattle.bao_run.specs.Input.{IsFetch};
 
 use outside::{Shelf, ShelfError};
@@ -15,11 +16,8 @@ pub fn fetch<S: Shelf>(
     limit: u32,
 ) -> Result<Vec<u8>, Status>
     ensures held { S.held shelf.new ≡ S.held shelf.old }
-    ensures answer { IsFetch (record {
-      held = S.held shelf.old;
-      before = record { faults = S.faults shelf.old; culprit = S.culprit shelf.old };
-      after = record { faults = S.faults shelf.new; culprit = S.culprit shelf.new };
-    }) (record { file = file; blamed = blamed; name = name.now; limit = limit }) result }
+    ensures answer { IsFetch (shelf_use S.held S.faults S.culprit shelf.old shelf.new)
+        (record { file = file; blamed = blamed; name = name.now; limit = limit }) result }
 {
     match shelf.fetch(alloc, name, limit) {
         Ok(bytes) => Ok(bytes),

@@ -1,4 +1,5 @@
 ghost use Rattle.std.specs.Prelude.{◌≡◌, unwrap_or};
+ghost use Rattle.outside.specs.Use.{shelf_use};
 ghost use Rattle.bao_wellformed.specs.Checked.{checked_data};
 ghost use Rattle.report.specs.declared.status.FileId.TheVariants as file;
 ghost use Rattle.std.specs.List.{position_from};
@@ -24,11 +25,8 @@ pub fn read_images<S: Shelf>(
     checked: &Checked,
 ) -> Result<Vec<Vec<u8>>, Status>
     ensures held { S.held shelf.new ≡ S.held shelf.old }
-    ensures answer { IsImagesAnswer (record {
-      held = S.held shelf.old;
-      before = record { faults = S.faults shelf.old; culprit = S.culprit shelf.old };
-      after = record { faults = S.faults shelf.new; culprit = S.culprit shelf.new };
-    }) config.now schedule.now (checked_data checked.now) result }
+    ensures answer { IsImagesAnswer (shelf_use S.held S.faults S.culprit shelf.old shelf.new)
+        config.now schedule.now (checked_data checked.now) result }
 {
     let mut images = Vec::new(alloc);
     for (v, vm) in checked.config().vms.as_slice().iter().enumerate() {

@@ -1,4 +1,5 @@
 ghost use Rattle.std.specs.Prelude.{◌≡◌, IfOk};
+ghost use Rattle.outside.specs.Use.{shelf_use};
 ghost use Rattle.bao_run.specs.Words.{Check, Run};
 ghost use Rattle.bao_run.specs.Input.{IsAnswer, IsCheckAnswer, IsWorkload};
 ghost use Rattle.bao_run.specs.Reading.{schedule_status};
@@ -30,11 +31,7 @@ pub struct Input {
 /// Reads the configuration of a check.
 pub fn read_check<S: Shelf>(alloc: Global, shelf: &mut S, config: &str) -> Result<Packed, Status>
     ensures held { S.held shelf.new ≡ S.held shelf.old }
-    ensures answer { IsCheckAnswer (record {
-      held = S.held shelf.old;
-      before = record { faults = S.faults shelf.old; culprit = S.culprit shelf.old };
-      after = record { faults = S.faults shelf.new; culprit = S.culprit shelf.new };
-    }) (Check config.now) result }
+    ensures answer { IsCheckAnswer (shelf_use S.held S.faults S.culprit shelf.old shelf.new) (Check config.now) result }
 {
     let checked = read_checked(alloc, shelf, config)?;
     pack_checked(alloc, checked)
@@ -48,11 +45,7 @@ pub fn read_run<S: Shelf>(
     schedule: &str,
 ) -> Result<Input, Status>
     ensures held { S.held shelf.new ≡ S.held shelf.old }
-    ensures answer { IsAnswer (record {
-      held = S.held shelf.old;
-      before = record { faults = S.faults shelf.old; culprit = S.culprit shelf.old };
-      after = record { faults = S.faults shelf.new; culprit = S.culprit shelf.new };
-    }) (Run config.now schedule.now) result }
+    ensures answer { IsAnswer (shelf_use S.held S.faults S.culprit shelf.old shelf.new) (Run config.now schedule.now) result }
 {
     let checked = read_checked(alloc, shelf, config)?;
     let packed = pack_checked(alloc, checked)?;

@@ -6,10 +6,10 @@ ghost use Rattle.vm_create.specs.Boot.{ArePlans};
 ghost use Rattle.hypervisor.specs.Shape.{shape_of};
 ghost use Rattle.hypervisor.specs.Hyp.{stands_for};
 ghost use Rattle.hypervisor.specs.Tidy.{Tidy};
-ghost use Rattle.bao_run.specs.Call.{IsPut};
 ghost use Rattle.bao_run.specs.Input.{CanPlay, input_data};
 ghost use Rattle.bao_run.specs.Play.{IsPlayed, IsShowing, IsUnfitted, booted};
 ghost use Rattle.outside.specs.Sink.{Takes, HasCause};
+ghost use Rattle.outside.specs.Use.{IsPut, shelf_use, sink_use};
 ghost use Rattle.bao_run.specs.Ending.{text_of};
 ghost use Rattle.bao_run.specs.Outcome.{Outcome};
 ghost use Rattle.bao_run.specs.Answers.{Answers};
@@ -44,17 +44,8 @@ pub fn run_bao<S: Shelf, K: Sink, B: Board>(
     requires ports { (B.state board.old).ports ≡ standard_ports }
     ensures { Answers (record {
       words = map string_bytes words.now;
-      shelf = record {
-        held = S.held shelf.old;
-        before = record { faults = S.faults shelf.old; culprit = S.culprit shelf.old };
-        after = record { faults = S.faults shelf.new; culprit = S.culprit shelf.new };
-      };
-      sink = record {
-        taken_before = K.taken sink.old;
-        taken_after = K.taken sink.new;
-        faults_before = K.faults sink.old;
-        faults_after = K.faults sink.new;
-      };
+      shelf = shelf_use S.held S.faults S.culprit shelf.old shelf.new;
+      sink = sink_use K.taken K.faults sink.old sink.new;
       board = record { before = B.state board.old; after = B.state board.new };
     }) result }
 {
@@ -73,17 +64,8 @@ fn carry_out<S: Shelf, K: Sink, B: Board>(
     requires ports { (B.state board.old).ports ≡ standard_ports }
     ensures { Outcome (record {
       words = map string_bytes words.now;
-      shelf = record {
-        held = S.held shelf.old;
-        before = record { faults = S.faults shelf.old; culprit = S.culprit shelf.old };
-        after = record { faults = S.faults shelf.new; culprit = S.culprit shelf.new };
-      };
-      sink = record {
-        taken_before = K.taken sink.old;
-        taken_after = K.taken sink.new;
-        faults_before = K.faults sink.old;
-        faults_after = K.faults sink.new;
-      };
+      shelf = shelf_use S.held S.faults S.culprit shelf.old shelf.new;
+      sink = sink_use K.taken K.faults sink.old sink.new;
       board = record { before = B.state board.old; after = B.state board.new };
     }) result }
 {
@@ -107,12 +89,7 @@ fn carry_out<S: Shelf, K: Sink, B: Board>(
 /// Writes the packing of a configuration.
 fn show<K: Sink>(sink: &mut K, packed: &Packed) -> Status
     requires { ArePlans (checked_data packed.now.checked) packed.now.plans.items }
-    ensures { IsShowing (checked_data packed.now.checked) (record {
-      taken_before = K.taken sink.old;
-      taken_after = K.taken sink.new;
-      faults_before = K.faults sink.old;
-      faults_after = K.faults sink.new;
-    }) result }
+    ensures { IsShowing (checked_data packed.now.checked) (sink_use K.taken K.faults sink.old sink.new) result }
 {
     match write_packing(sink, &packed.checked, &packed.plans) {
         Ok(()) => Status::Done,
@@ -131,12 +108,8 @@ fn play<K: Sink, B: Board>(
     requires unfitted { (B.state board.old).fitted ≡ false }
     requires ports { (B.state board.old).ports ≡ standard_ports }
     requires input { CanPlay input.now }
-    ensures { IsPlayed (text_of ending) (input_data input.now) (record { before = B.state board.old; after = B.state board.new }) (record {
-      taken_before = K.taken sink.old;
-      taken_after = K.taken sink.new;
-      faults_before = K.faults sink.old;
-      faults_after = K.faults sink.new;
-    }) result }
+    ensures { IsPlayed (text_of ending) (input_data input.now) (record { before = B.state board.old; after = B.state board.new })
+        (sink_use K.taken K.faults sink.old sink.new) result }
 {
     let mut hyp = match start(alloc, board, input) {
         Ok(hyp) => hyp,
@@ -198,12 +171,7 @@ fn start<B: Board>(alloc: Global, board: &mut B, input: &Input) -> Result<Hyp, O
 fn refuse<K: Sink>(sink: &mut K, status: Status) -> Status
     requires { IsTrue (is_refusal status) }
     ensures status { result ≡ status }
-    ensures line { IsPut (record {
-      taken_before = K.taken sink.old;
-      taken_after = K.taken sink.new;
-      faults_before = K.faults sink.old;
-      faults_after = K.faults sink.new;
-    }) (refusal_text status) }
+    ensures line { IsPut (sink_use K.taken K.faults sink.old sink.new) (refusal_text status) }
 {
     let _ = write_refusal(sink, &status);
     status

@@ -1,6 +1,8 @@
 ghost use Rattle.std.specs.Prelude.{◌≡◌, map, string_bytes};
-ghost use Rattle.bao_run.specs.Words.{command_of, generated, number_of, has_no_leading_zero};
+ghost use Rattle.bao_run.specs.Words.{command_of, generated, word_number};
 ghost use Rattle.bao_run.specs.Command.{command_data};
+
+use numerals::number;
 
 /// What the words of the command line ask for.
 pub enum Command<'a> {
@@ -22,7 +24,7 @@ pub fn read_words(words: &[String]) -> Command<'_>
         [verb, config] if verb.as_str() == "check" => Command::Check {
             config: config.as_str(),
         },
-        [verb, word] if verb.as_str() == "gen" => generated(number_of(word.as_bytes())),
+        [verb, word] if verb.as_str() == "gen" => generated(word_number(number(word.as_bytes()))),
         [verb, config, schedule] if verb.as_str() == "run" => Command::Run {
             config: config.as_str(),
             schedule: schedule.as_str(),
@@ -41,36 +43,12 @@ fn generated(number: Option<u32>) -> Command<'static>
     }
 }
 
-/// The number that a text is, if it is a decimal one from 0 to 2^32 - 1, without leading zeros.
-#[tactic(auto, using(crate::proofs::Numbers::digits_more, crate::proofs::Numbers::value_cut, crate::proofs::Numbers::not_a_number))]
-fn number_of(text: &[u8]) -> Option<u32>
-    ensures { result ≡ number_of text.now }
+/// The number, if it has 32 bits.
+fn word_number(number: Option<u64>) -> Option<u32>
+    ensures { result ≡ word_number number }
 {
-    if !has_no_leading_zero(text) {
-        return None;
-    }
-    let mut value = 0u64;
-    for byte in text {
-        if !byte.is_ascii_digit() {
-            return None;
-        }
-        value = value
-            .saturating_mul(10)
-            .saturating_add(u64::from(*byte - b'0'));
-    }
-    if value < 1 << 32 {
-        Some(value as u32)
-    } else {
-        None
-    }
-}
-
-fn has_no_leading_zero(text: &[u8]) -> bool
-    ensures { result ≡ has_no_leading_zero text.now }
-{
-    match text {
-        [] => false,
-        [_] => true,
-        [first, ..] => *first != b'0',
+    match number {
+        Some(number) if number < 1 << 32 => Some(number as u32),
+        _ => None,
     }
 }

@@ -1,4 +1,5 @@
 mod FileListLemmas
 pub mod Puts
 mod ReaderLemmas
+pub mod Told
 mod WriterLemmas

@@ -2,7 +2,7 @@
 use Rattle.std.specs.Prelude.{◌≡◌, ℕ, ◌<◌, ◌≤◌, List, length, ⊤, Vec, Option, Result, Ok, Err, IsSome, IfSome}
 use Rattle.std.specs.Io.KnownBytes.{Consumes}
 use Rattle.std.specs.declared.alloc.Global.{Global}
-use Rattle.outside.specs.Shelf.{IfTold}
+use Rattle.outside.specs.Shelf.{Files, IfTold}
 use Rattle.outside.specs.declared.shelf.ShelfError.{ShelfError}
 use Rattle.outside.specs.declared.shelf.ShelfError.TheVariants.{TooLong, Failed, OutOfMemory}
 
@@ -12,7 +12,7 @@ pub record FileShelfData (O : Type 0) : Type 0 where
   pub culprit : List ℕ
 
 -- where contents are told, an opened file isn't missing, and all of its content is left to be read
-abbrev pub IsOpened : Option (List ℕ → Option (List ℕ)) → List ℕ → Option (List ℕ) → Type 0
+abbrev pub IsOpened : Option Files → List ℕ → Option (List ℕ) → Type 0
 IsOpened files name remaining = IfTold files name (λ content. IsSome content × (remaining ≡ content))
 
 -- By the answer: all bytes that a reader had left, within the limit; more bytes than the limit; and two answers that may

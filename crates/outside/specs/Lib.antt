@@ -7,3 +7,4 @@ pub mod OutSink
 pub mod Shelf
 pub mod Sink
 pub mod SureShelf
+pub mod Use

@@ -5,14 +5,22 @@ use Rattle.outside.specs.Faults.{risen}
 use Rattle.outside.specs.declared.shelf.ShelfError.{ShelfError}
 use Rattle.outside.specs.declared.shelf.ShelfError.TheVariants.{TooLong, Failed, OutOfMemory}
 
--- a fact on what is told of a name, its content or that it is missing; nothing is asked where nothing is told
-abbrev pub IfTold : Option (List ℕ → Option (List ℕ)) → List ℕ → (Option (List ℕ) → Type 0) → Type 0
-IfTold None name P = ⊤
-IfTold (Some held) name P = P (held name)
+-- the contents that a shelf tells, by name; none for a name that is missing
+abbrev pub Files : Type 0
+Files = List ℕ → Option (List ℕ)
+
+-- a fact on the files, where the shelf tells them; nothing is asked where nothing is told
+abbrev pub IfHeld : Option Files → (Files → Type 0) → Type 0
+IfHeld None P = ⊤
+IfHeld (Some files) P = P files
+
+-- such a fact on what is told of one name, its content or that it is missing
+abbrev pub IfTold : Option Files → List ℕ → (Option (List ℕ) → Type 0) → Type 0
+IfTold held name P = IfHeld held (λ files. P (files name))
 
 -- By the answer: the whole content, within the limit; a content above the limit; and two answers that may always come.
 -- So a missing name has one of these two, and of a content its length decides.
-abbrev pub IsFetched : Option (List ℕ → Option (List ℕ)) → List ℕ → ℕ → Result (Vec ℕ Global) ShelfError → Type 0
+abbrev pub IsFetched : Option Files → List ℕ → ℕ → Result (Vec ℕ Global) ShelfError → Type 0
 IsFetched held name limit (Ok file) = (length file.items ≤ limit) × IfTold held name (λ content. content ≡ Some file.items)
 IsFetched held name limit (Err TooLong) = IfTold held name (λ content. IsSomeAnd content (λ bytes. limit < length bytes))
 IsFetched held name limit (Err Failed) = ⊤

@@ -1,5 +1,5 @@
 ghost use Rattle.std.specs.Prelude.{◌≡◌, Option, List, ℕ, Some};
-ghost use Rattle.outside.specs.Shelf.{IsFetched, Blames, error_text};
+ghost use Rattle.outside.specs.Shelf.{Files, IsFetched, Blames, error_text};
 ghost use Rattle.outside.specs.declared.shelf.ShelfError.TheVariants.{OutOfMemory};
 
 use std::alloc::{AllocError, Global};
@@ -9,7 +9,7 @@ use std::fmt;
 /// A source of files, each of which is fetched whole by its name.
 pub trait Shelf {
     /// What the shelf tells of its files: nothing, or for each name its content, or that it is missing.
-    ghost held: { Self → Option (List ℕ → Option (List ℕ)) };
+    ghost held: { Self → Option Files };
 
     /// How often a fetch has failed. It never falls, and stands still at 2^64 - 1.
     ghost faults: { Self → ℕ };

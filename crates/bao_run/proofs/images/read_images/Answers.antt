@@ -1,17 +1,17 @@
 use Rattle.std.proofs.Common.{◌≡◌, ◌∷◌, [], ◌++◌, ◌∙◌, ◌≤◌, List, ℕ, Vec, Global, length, map, rules, sym, ap, subst, arith, slice_get, Some}
 use Rattle.std.specs.Prelude.{Err, unwrap_or}
 use Rattle.std.proofs.lemmas.List.{length-map, map-append}
-use Rattle.outside.specs.Shelf.{Blame, IfTold}
+use Rattle.outside.specs.Shelf.{Blame, IfHeld, IfTold}
 use Rattle.bao_config.specs.declared.config.Vm.{Vm}
 use Rattle.bao_config.specs.Data.{ConfigData, VmData, vm_data}
 use Rattle.bao_wellformed.specs.Checked.{checked_data}
 use Rattle.mpu_packer.proofs.Owners.{vm_at}
 use Rattle.report.specs.declared.status.FileId.TheVariants as file
-use Rattle.bao_run.specs.Input.{IfHeld, IsFetch, files_of, first_named}
+use Rattle.bao_run.specs.Input.{IsFetch, files_of, first_named}
 use Rattle.bao_run.specs.Words.{Run}
 use Rattle.bao_run.specs.Ruling.{image_limit}
 use Rattle.bao_run.specs.Reading.{AreImages}
-use Rattle.bao_run.proofs.Fetches.{InRooms, image_refused, rooms_fit, rooms_more, held_more, told_content}
+use Rattle.bao_run.proofs.Fetches.{InRooms, image_refused, rooms_fit, rooms_more, held_more}
 use Rattle.bao_run.proofs.images.read_images.Goals as goal
 
 abbrev items_of : List (Vec ℕ Global) → List (List ℕ)
@@ -85,7 +85,7 @@ loop-v-preserved g c =
       rooms = subst (InRooms cfg.vms) (sym joined) (rooms_more cfg.vms images vm image c.loop-v.invariant.rooms is fits);
       come = subst (λ (images : List (List ℕ)). IfHeld (g.S.Shelf.held c.args.shelf.now) (λ files. AreImages files cfg.vms images)) (sym joined)
           (held_more (g.S.Shelf.held c.args.shelf.now) cfg.vms images vm image c.loop-v.invariant.come is
-          (told_content (g.S.Shelf.held c.args.shelf.now) vm.image (λ content. content ≡ Some image) content) short);
+          content short);
       held = c.in_ok-image.ensures.held ∙ c.loop-v.invariant.held;
       faults = c.in_ok-image.ensures.answer.2 ∙ c.loop-v.invariant.faults;
     }

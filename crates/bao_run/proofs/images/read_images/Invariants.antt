@@ -1,6 +1,6 @@
 use Rattle.std.proofs.Common.{◌≡◌, map, length}
 use Rattle.bao_wellformed.specs.Checked.{checked_data}
-use Rattle.bao_run.specs.Input.{IfHeld}
+use Rattle.outside.specs.Shelf.{IfHeld}
 use Rattle.bao_run.specs.Reading.{AreImages}
 use Rattle.bao_run.proofs.Fetches.{InRooms}
 use Rattle.bao_run.proofs.images.read_images.Given as goal

@@ -1,10 +1,10 @@
 use Rattle.std.proofs.Common.{◌≡◌, ◌∙◌, List, ℕ, Vec, Global, map, rules, sym, subst, Some}
 use Rattle.std.specs.Prelude.{Err}
-use Rattle.outside.specs.Shelf.{Blame, IfTold}
+use Rattle.outside.specs.Shelf.{Blame, IfHeld, IfTold}
 use Rattle.bao_wellformed.specs.Checked.{checked_data}
 use Rattle.report.specs.declared.status.FileId.TheVariants as file
 use Rattle.vm_create.specs.Boot.{ArePlans}
-use Rattle.bao_run.specs.Input.{IfHeld, IsFetch}
+use Rattle.bao_run.specs.Input.{IsFetch}
 use Rattle.schedule.specs.Answer.{TellsBroken}
 use Rattle.schedule.specs.Schedule.{Events, schedule_of}
 use Rattle.bao_run.specs.Ruling.{schedule_limit}

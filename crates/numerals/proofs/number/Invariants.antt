@@ -1,8 +1,8 @@
 use Rattle.std.proofs.Common.{◌≡◌, min, true, take}
 use Rattle.std.specs.List.{list_all}
 use Rattle.std.specs.Char.{is_ascii_digit}
-use Rattle.bao_run.specs.Words.{value_of}
-use Rattle.bao_run.proofs.words.number_of.Given as goal
+use Rattle.numerals.specs.Numeral.{value_of}
+use Rattle.numerals.proofs.number.Given as goal
 
 abbrev pub invariant-loop-byte : goal.invariant-loop-byte
 invariant-loop-byte l = record {
