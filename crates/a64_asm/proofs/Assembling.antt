@@ -2,13 +2,13 @@
 use Rattle.std.proofs.Common.{◌≡◌, ℕ, ◌+◌, ◌<◌, ◌≤◌, Bool, true, false, List, [], ◌∷◌, ◌++◌, length, refl, sym, ap, subst, ◌∙◌, arith}
 use Rattle.std.specs.Prelude.{Option, Some, None, if◌then◌else◌}
 use Rattle.a64_asm.specs.Text.{Whole, Parts, cut_of}
-use Rattle.a64_asm.specs.Source.{judged, broken_by, bytes_in, unless_bad, at_end, Assembled, Image, Broken, next_of, assembled_from, assembled, beginning, lines_of, definitions, is_word, TellsBroken}
+use Rattle.a64_asm.specs.Source.{judged, broken_by, bytes_in, unless_bad, at_end, Image, Broken, next_of, assembled_from, assembled, beginning, lines_of, definitions, is_word, TellsBroken}
 use Rattle.a64_asm.specs.Progress.{TakesLine, IsRefused}
 use Rattle.a64_asm.specs.declared.label.Definition.{Definition}
 use Rattle.a64_asm.specs.declared.source.Progress.{Progress}
 use Rattle.a64_asm.specs.declared.error.AsmError.{AsmError}
 use Rattle.a64_asm.specs.declared.error.AsmError.TheVariants.{BadLine, OutOfMemory}
-use Rattle.a64_asm.proofs.Lines.{IsLine, first_line, no_line, some_part}
+use Rattle.a64_asm.proofs.Lines.{first_line, no_line, some_part}
 
 -- so far the lines before the rest were read; what is left decides
 pub record IsReading (text bytes : List ℕ) (here : Definition) (rest : List ℕ) : Type 0 where

@@ -1,6 +1,6 @@
 -- Each line of the listing is read as the word that it was made of.
-use Rattle.std.proofs.Common.{◌≡◌, ◌≢◌, ℕ, zero, suc, ◌+◌, ◌-◌, ◌*◌, ◌/◌, ◌%◌, ◌^◌, ◌<◌, ◌≤◌, Bool, true, false, not, List, [], ◌∷◌, ◌++◌, length, refl, sym, ap, subst, ◌∙◌, arith, inl, inr, eqb}
-use Rattle.std.specs.Prelude.{Option, None, Some, Result, Ok, Err, ◌==◌, ◌&&◌, ◌||◌, nat_le, nat_lt, is_none, if◌then◌else◌, unwrap_or, codes}
+use Rattle.std.proofs.Common.{◌≡◌, ℕ, zero, suc, ◌+◌, ◌-◌, ◌*◌, ◌/◌, ◌%◌, ◌^◌, ◌<◌, ◌≤◌, Bool, true, false, not, List, [], ◌∷◌, ◌++◌, length, refl, sym, ap, subst, ◌∙◌, arith, inl, inr}
+use Rattle.std.specs.Prelude.{Option, None, Some, Ok, Err, ◌==◌, ◌&&◌, ◌||◌, nat_le, nat_lt, is_none, if◌then◌else◌, codes}
 use Rattle.std.specs.List.{list_all}
 use Rattle.std.specs.Char.{is_ascii_digit}
 use Rattle.std.specs.Fmt.{decimal, digits}
@@ -9,7 +9,6 @@ use Rattle.std.proofs.lemmas.Bool.Decides.{nat_tests}
 use Rattle.std.proofs.lemmas.List.Folds.{list_all-append}
 use Rattle.std.proofs.lemmas.Fmt.{decimal_nonempty}
 use Rattle.bao_types.specs.declared.sys_id.SysId.{SysId}
-use Rattle.a64_decode.specs.declared.instr.Instr.{Instr}
 use Rattle.a64_decode.specs.declared.instr.Instr.TheVariants as instr
 use Rattle.a64_decode.specs.declared.operand.Reg.{Reg}
 use Rattle.a64_decode.specs.declared.operand.Condition.{Condition}
@@ -25,18 +24,17 @@ use Rattle.a64_decode.specs.declared.operand.ExceptionKind.TheVariants.{Svc, Hvc
 use Rattle.a64_decode.specs.declared.operand.Shift.TheVariants.{Lsl}
 use Rattle.a64_decode.specs.declared.operand.Size.{Size}
 use Rattle.a64_decode.specs.Lawful.{IsSigned, IsSysId}
-use Rattle.a64_asm.specs.Text.{Cut, Whole, Parts, cut_of, operand_of, comma}
+use Rattle.a64_asm.specs.Text.{comma}
 use Rattle.numerals.specs.Numeral.{number_of}
-use Rattle.a64_asm.specs.Number.{hex, hex_word_of, offset_text}
-use Rattle.a64_asm.specs.Register.{register_of, register_text, named}
+use Rattle.a64_asm.specs.Number.{hex, offset_text}
+use Rattle.a64_asm.specs.Register.{register_text, named}
 use Rattle.a64_asm.specs.Mnemonic.{name_of, mnemonic_of, mnemonics, branches}
 use Rattle.a64_asm.specs.Listing.{phrase, move_text, add_text, registers_text, access_text, branch_text, compare_text, system_name, system_text, raw_text}
-use Rattle.a64_asm.specs.Operand.{Three, triple_of, triple_in, triple_with, is_same, trio_of, base_of, offset_of, offset_in, number_behind, system_numbers, five_numbers, four_numbers, three_numbers, last_numbers, numbers_of, is_letter, begins_with_letter, is_name_byte, is_name, signed_of, distance_of, target_of, words_in, is_within, words_to}
-use Rattle.a64_asm.specs.Reading.{is_shift, moved, move_row, number_added, registers_added, added, add_row, combined, logical_row, transfer_of, transferred, accessed, access, access_row, branch_row, condition_row, compared, compare_row, register_row, exception_row, is_system, system_said, system_row, word_row, alone, row_of, said_in, said_of}
+use Rattle.a64_asm.specs.Operand.{Three, triple_of, triple_in, triple_with, is_same, trio_of, offset_of, offset_in, system_numbers, five_numbers, four_numbers, three_numbers, last_numbers, is_letter, is_name, signed_of, distance_of, target_of, words_to}
+use Rattle.a64_asm.specs.Reading.{is_shift, moved, move_row, number_added, registers_added, add_row, combined, logical_row, transfer_of, transferred, accessed, access_row, branch_row, condition_row, compare_row, register_row, exception_row, is_system, system_said, system_row, word_row, alone, row_of, said_in, said_of}
 use Rattle.a64_asm.specs.Source.{is_blank}
 use Rattle.a64_asm.specs.declared.register.Register.{Register}
 use Rattle.a64_asm.specs.declared.operand.Numbers.{Numbers}
-use Rattle.a64_asm.specs.declared.operand.Distance.{Distance}
 use Rattle.a64_asm.specs.declared.label.Definition.{Definition}
 use Rattle.a64_asm.specs.declared.said.Said.{Said}
 use Rattle.a64_asm.specs.declared.said.Said.TheVariants.{Instruction, Raw}

@@ -2,7 +2,7 @@
 use Rattle.std.proofs.Common.{◌≡◌, ℕ, zero, suc, ◌+◌, ◌<◌, ◌==◌, Bool, true, false, not, cond, List, [], ◌∷◌, length, take, drop, refl, sym, ap, ◌∙◌, arith, add-one}
 use Rattle.std.specs.Prelude.{if◌then◌else◌}
 use Rattle.std.specs.List.{position_or_len}
-use Rattle.a64_asm.specs.Text.{Cut, Whole, Parts, put_before, cut_of}
+use Rattle.a64_asm.specs.Text.{Whole, Parts, put_before, cut_of}
 
 -- one byte before the place
 by_first : (byte first : ℕ) (rest : List ℕ) (n at : ℕ) (b : Bool) → cond (not b) (1 + n) 0 ≡ at → at < suc (length rest)

@@ -1,10 +1,10 @@
 -- A word that is joined from fields that fit is read as the row's instruction, where no earlier row has the same bits.
-use Rattle.std.proofs.Common.{◌≡◌, ℕ, zero, suc, ◌+◌, ◌-◌, ◌*◌, ◌/◌, ◌%◌, ◌^◌, ◌<◌, ◌≤◌, Bool, true, false, not, ◌&&◌, ◌||◌, List, [], ◌∷◌, length, take, refl, sym, ap, subst, ◌∙◌, arith, eqb, leb, ltb}
+use Rattle.std.proofs.Common.{◌≡◌, ℕ, zero, suc, ◌+◌, ◌-◌, ◌*◌, ◌/◌, ◌%◌, ◌^◌, ◌<◌, ◌≤◌, Bool, true, false, not, ◌&&◌, ◌||◌, List, [], ◌∷◌, take, refl, sym, ap, subst, ◌∙◌, arith, eqb, leb, ltb}
 use Rattle.std.specs.Prelude.{Option, None, Some, if◌then◌else◌, slice_get}
 use Rattle.std.specs.List.{list_all}
 use Rattle.std.proofs.lemmas.Nat.{mod-pow-add, pow_pos, pow-add, div-mul-add, mod-mul-add, mul-add-lt, field_of}
 use Rattle.std.proofs.lemmas.Bool.{eqb-true, eq-eqb, leb-true, leb-false, ltb-true}
-use Rattle.std.proofs.Math.Nat.{mod-lt, mod-eq_of_lt, mod-one, div-div-eq-div-mul}
+use Rattle.std.proofs.Math.Nat.{mod-lt, mod-eq_of_lt, div-div-eq-div-mul}
 use Rattle.std.proofs.Math.Pow.{mod-mod-pow}
 use Rattle.bao_types.specs.Bits.{field}
 use Rattle.a64_decode.specs.declared.instr.Instr.{Instr}

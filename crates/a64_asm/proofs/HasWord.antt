@@ -1,5 +1,5 @@
 -- Each instruction of the line forms has a word: the one that its fields make decodes to it.
-use Rattle.std.proofs.Common.{◌≡◌, ◌≢◌, ℕ, ◌+◌, ◌-◌, ◌*◌, ◌/◌, ◌%◌, ◌^◌, ◌<◌, ◌≤◌, Bool, true, false, not, ◌&&◌, ◌||◌, List, [], ◌∷◌, take, refl, sym, ap, subst, ◌∙◌, arith, rules, lit<, inl, inr, eqb, ltb}
+use Rattle.std.proofs.Common.{◌≡◌, ◌≢◌, ℕ, ◌+◌, ◌-◌, ◌*◌, ◌%◌, ◌^◌, ◌<◌, ◌≤◌, Bool, true, false, not, ◌&&◌, ◌||◌, [], ◌∷◌, take, refl, subst, arith, rules, lit<, inl, inr, eqb}
 use Rattle.std.specs.Prelude.{IsTrue, IsFalse, Some, if◌then◌else◌, slice_get, nat_lt}
 use Rattle.std.specs.List.{list_all}
 use Rattle.std.proofs.lemmas.Bool.{ltb-true, ltb-false}
@@ -25,14 +25,14 @@ use Rattle.a64_decode.specs.declared.operand.Size.TheVariants as size
 use Rattle.a64_decode.specs.declared.operand.Transfer.{Transfer}
 use Rattle.a64_decode.specs.declared.operand.Transfer.TheVariants as transfer
 use Rattle.a64_decode.specs.Pattern.{Row}
-use Rattle.a64_decode.specs.Operands.{flag, sign_extend, condition_of, shift_of, logical_of, move_of, branch_of, exception_of, size_of, transfer_of}
+use Rattle.a64_decode.specs.Operands.{flag, sign_extend, condition_of, shift_of, logical_of, move_of, exception_of, size_of, transfer_of}
 use Rattle.a64_decode.specs.Codes.{bit, condition_number, shift_number, logical_number, move_number, branch_number, size_number, transfer_number, exception_brk, exception_ll, unsigned_of}
 use Rattle.a64_decode.specs.Lawful.{IsLawful, IsSigned, is_rotation, has_no_transfer}
 use Rattle.a64_decode.specs.Word.{join, fields_of, row_of, word_of}
-use Rattle.a64_decode.specs.Table.{table, decoded, branch_rows, system_rows, register_rows, source_rows, load_store_rows, is_above_31, is_no_transfer, address_row, add_sub_immediate_row, logical_immediate_row, move_wide_row, bitfield_row, extract_row, branch_row, branch_conditional_row, compare_branch_row, test_branch_row, branch_register_row, exception_return_row, exception_row, hint_row, barrier_row, msr_immediate_row, system_row, system_register_row, logical_shifted_row, add_sub_shifted_row, add_sub_extended_row, add_sub_carry_row, conditional_compare_row, conditional_select_row, three_sources_row, two_sources_row, one_source_row, load_literal_row, pair_row, load_store_unsigned_row, load_store_indexed_row, load_store_register_row}
+use Rattle.a64_decode.specs.Table.{table, branch_rows, system_rows, register_rows, source_rows, load_store_rows, is_no_transfer, address_row, add_sub_immediate_row, logical_immediate_row, move_wide_row, bitfield_row, extract_row, branch_row, branch_conditional_row, compare_branch_row, test_branch_row, branch_register_row, exception_return_row, exception_row, hint_row, barrier_row, msr_immediate_row, system_row, system_register_row, logical_shifted_row, add_sub_shifted_row, add_sub_extended_row, add_sub_carry_row, conditional_compare_row, conditional_select_row, three_sources_row, two_sources_row, one_source_row, load_literal_row, pair_row, load_store_unsigned_row}
 use Rattle.a64_encode.specs.Encode.{IsWordOf, encoded}
 use Rattle.a64_asm.specs.Source.{is_said}
-use Rattle.a64_asm.proofs.Encodable.{fills, is_apart, IsFit, IsReadAs, read_as}
+use Rattle.a64_asm.proofs.Encodable.{fills, is_apart, IsReadAs, read_as}
 
 -- the row stands at this place of the table, and has other bits than each row before it
 pub record StandsAt (k : ℕ) (row : Row) : Type 0 where

@@ -13,7 +13,7 @@ use Rattle.a64_asm.specs.Text.{Whole, Parts, cut_of}
 use Rattle.a64_asm.specs.Labels.{looked_up}
 use Rattle.a64_asm.specs.Source.{label_of, is_word, definition_at, next_of, found_from, beginning, lines_of, definitions}
 use Rattle.a64_asm.specs.declared.label.Definition.{Definition}
-use Rattle.a64_asm.proofs.Lines.{IsLine, first_line, no_line, some_part}
+use Rattle.a64_asm.proofs.Lines.{first_line, no_line, some_part}
 
 or_none : (found : Option Definition) → found ≡ option_or found None
 or_none None = refl

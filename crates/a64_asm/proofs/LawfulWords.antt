@@ -1,6 +1,6 @@
 -- What a word decodes to has fields that fit their bits, where a line says such an instruction.
-use Rattle.std.proofs.Common.{◌≡◌, ℕ, zero, suc, ◌+◌, ◌-◌, ◌*◌, ◌/◌, ◌%◌, ◌^◌, ◌<◌, ◌≤◌, Bool, true, false, not, ◌&&◌, ◌||◌, List, [], ◌∷◌, refl, sym, ap, ◌∙◌, arith, inl, inr, eqb, ltb}
-use Rattle.std.specs.Prelude.{if◌then◌else◌, nat_lt, IsFalse}
+use Rattle.std.proofs.Common.{◌≡◌, ℕ, zero, suc, ◌+◌, ◌-◌, ◌*◌, ◌^◌, ◌<◌, ◌≤◌, Bool, true, false, not, ◌&&◌, ◌||◌, List, [], ◌∷◌, refl, ap, ◌∙◌, arith, inl, inr, eqb}
+use Rattle.std.specs.Prelude.{if◌then◌else◌, nat_lt}
 use Rattle.std.proofs.lemmas.Nat.{pow_pos}
 use Rattle.std.proofs.lemmas.Bool.{ltb-true, ltb-false, eqb-true, and_parts}
 use Rattle.std.proofs.lemmas.Bool.Decides.{nat_tests}
@@ -9,9 +9,9 @@ use Rattle.bao_types.specs.Bits.{field}
 use Rattle.a64_decode.specs.declared.instr.Instr.{Instr}
 use Rattle.a64_decode.specs.declared.instr.Instr.TheVariants.{Undefined}
 use Rattle.a64_decode.specs.Pattern.{Row, matches, free_fields, reading_of, first_reading}
-use Rattle.a64_decode.specs.Operands.{flag, sign_extend, shift_of, size_of, transfer_of}
+use Rattle.a64_decode.specs.Operands.{shift_of, size_of, transfer_of}
 use Rattle.a64_decode.specs.Lawful.{IsLawful, IsSigned, is_rotation, has_no_transfer}
-use Rattle.a64_decode.specs.Table.{table, decoded, branch_rows, system_rows, register_rows, source_rows, load_store_rows, is_above_31, is_no_transfer, address_row, add_sub_immediate_row, logical_immediate_row, move_wide_row, bitfield_row, extract_row, branch_row, branch_conditional_row, compare_branch_row, test_branch_row, branch_register_row, exception_return_row, exception_row, hint_row, barrier_row, msr_immediate_row, system_row, system_register_row, logical_shifted_row, add_sub_shifted_row, add_sub_extended_row, add_sub_carry_row, conditional_compare_row, conditional_select_row, three_sources_row, two_sources_row, one_source_row, load_literal_row, pair_row, load_store_unsigned_row, load_store_indexed_row, load_store_register_row}
+use Rattle.a64_decode.specs.Table.{table, decoded, branch_rows, system_rows, register_rows, source_rows, load_store_rows, is_no_transfer, address_row, add_sub_immediate_row, logical_immediate_row, move_wide_row, bitfield_row, extract_row, branch_row, branch_conditional_row, compare_branch_row, test_branch_row, branch_register_row, exception_return_row, exception_row, hint_row, barrier_row, msr_immediate_row, system_row, system_register_row, logical_shifted_row, add_sub_shifted_row, add_sub_extended_row, add_sub_carry_row, conditional_compare_row, conditional_select_row, three_sources_row, two_sources_row, one_source_row, load_literal_row, pair_row, load_store_unsigned_row, load_store_indexed_row, load_store_register_row}
 use Rattle.a64_asm.specs.Source.{is_said}
 
 -- a test of the numbers below one

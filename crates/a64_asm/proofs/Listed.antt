@@ -1,7 +1,7 @@
 -- Assembling a listing gives the image back.
-use Rattle.std.proofs.Common.{◌≡◌, ◌≢◌, ℕ, zero, suc, ◌+◌, ◌-◌, ◌*◌, ◌/◌, ◌%◌, ◌^◌, ◌<◌, ◌≤◌, Bool, true, false, not, List, [], ◌∷◌, ◌++◌, length, refl, sym, ap, subst, ◌∙◌, arith, append_assoc, append-nil}
-use Rattle.std.specs.Prelude.{Option, None, Some, Result, Ok, Err, ◌==◌, ◌&&◌, nat_le, nat_lt, if◌then◌else◌, unwrap_or, IsTrue}
-use Rattle.std.specs.List.{list_all, flat_map, AllByRecursion}
+use Rattle.std.proofs.Common.{◌≡◌, ◌≢◌, ℕ, ◌+◌, ◌*◌, ◌/◌, ◌%◌, ◌^◌, ◌<◌, ◌≤◌, Bool, true, false, not, List, [], ◌∷◌, ◌++◌, length, refl, sym, ap, subst, ◌∙◌, arith, append_assoc, append-nil}
+use Rattle.std.specs.Prelude.{Option, None, Some, Ok, Err, ◌==◌, ◌&&◌, nat_le, if◌then◌else◌, unwrap_or}
+use Rattle.std.specs.List.{flat_map, AllByRecursion}
 use Rattle.std.proofs.lemmas.Bool.{and_parts, eqb-true, leb-true, lt-ltb}
 use Rattle.a64_decode.specs.declared.instr.Instr.{Instr}
 use Rattle.a64_decode.specs.declared.instr.Instr.TheVariants as instr
@@ -12,22 +12,19 @@ use Rattle.a64_decode.specs.declared.operand.LogicalKind.TheVariants.{And, Orr, 
 use Rattle.a64_decode.specs.declared.operand.Shift.TheVariants.{Lsl, Lsr, Asr, Ror}
 use Rattle.a64_decode.specs.declared.operand.Size.{Size}
 use Rattle.a64_decode.specs.declared.operand.Size.TheVariants as size
-use Rattle.a64_decode.specs.declared.operand.Transfer.{Transfer}
 use Rattle.a64_decode.specs.declared.operand.Transfer.TheVariants as transfer
 use Rattle.a64_decode.specs.Table.{decoded}
 use Rattle.a64_encode.proofs.Made.{encoded-made}
-use Rattle.a64_asm.specs.Text.{Cut, Whole, Parts, cut_of}
 use Rattle.a64_asm.specs.Register.{named}
 use Rattle.a64_asm.specs.Mnemonic.{name_of}
-use Rattle.a64_asm.specs.Listing.{registers_text, access_text, transfer_form, access_form, is_unshifted, form_of, raw_text, text_of, line_of_word, word_at, words_of, listing, is_image_length}
-use Rattle.a64_asm.specs.Reading.{said_of, transfer_of}
-use Rattle.a64_asm.specs.Source.{is_blank, label_in, label_of, is_word, next_of, beginning, lines_of, definitions, word_said, within_limit, judged_by, judged, broken_by, bytes_of, bytes_in, Assembled, Image, unless_bad, at_end, assembled_from, assembled}
+use Rattle.a64_asm.specs.Listing.{registers_text, transfer_form, form_of, raw_text, text_of, line_of_word, word_at, words_of, listing, is_image_length}
+use Rattle.a64_asm.specs.Reading.{transfer_of}
+use Rattle.a64_asm.specs.Source.{label_in, label_of, is_word, next_of, beginning, lines_of, definitions, word_said, within_limit, judged_by, judged, broken_by, bytes_of, bytes_in, Image, unless_bad, assembled_from, assembled}
 use Rattle.a64_asm.specs.declared.label.Definition.{Definition}
 use Rattle.a64_asm.specs.declared.said.Said.{Said}
 use Rattle.a64_asm.specs.declared.said.Said.TheVariants.{Instruction, Raw}
-use Rattle.a64_asm.specs.declared.mnemonic.Mnemonic.{Mnemonic}
-use Rattle.a64_asm.specs.declared.mnemonic.Mnemonic.TheVariants.{AddSub, Logical, Access, Branch, BranchIf, ExceptionReturn, Nop}
-use Rattle.a64_asm.proofs.Lines.{first_line, some_part}
+use Rattle.a64_asm.specs.declared.mnemonic.Mnemonic.TheVariants.{AddSub, Logical, BranchIf, Nop}
+use Rattle.a64_asm.proofs.Lines.{first_line}
 use Rattle.a64_asm.proofs.Assembling.{next_line}
 use Rattle.a64_asm.proofs.LawfulWords.{IsKept, lawful_words}
 use Rattle.a64_asm.proofs.Spelled.{has_no, cut_at, not_cut, weaker}

@@ -1,21 +1,21 @@
 -- Numbers, registers and first words are read as they are written.
-use Rattle.std.proofs.Common.{◌≡◌, ℕ, zero, suc, ◌+◌, ◌-◌, ◌*◌, ◌/◌, ◌%◌, ◌^◌, ◌<◌, ◌≤◌, Bool, true, false, not, min, List, [], ◌∷◌, ◌++◌, length, get_or, refl, sym, ap, subst, ◌∙◌, arith, rules, eqb, ltb, length-append}
-use Rattle.std.specs.Prelude.{Option, None, Some, ◌==◌, ◌&&◌, ◌||◌, nat_le, nat_lt, if◌then◌else◌, fold, IsTrue}
+use Rattle.std.proofs.Common.{◌≡◌, ℕ, zero, suc, ◌+◌, ◌-◌, ◌*◌, ◌/◌, ◌%◌, ◌^◌, ◌<◌, Bool, true, false, not, min, List, [], ◌∷◌, ◌++◌, length, get_or, refl, sym, ap, ◌∙◌, arith, rules, eqb, length-append}
+use Rattle.std.specs.Prelude.{Option, None, Some, ◌==◌, ◌&&◌, ◌||◌, nat_le, if◌then◌else◌, fold}
 use Rattle.std.specs.List.{list_all}
 use Rattle.std.specs.Char.{is_ascii_digit}
 use Rattle.std.specs.Fmt.{decimal, digits, digit_glyph}
 use Rattle.std.proofs.lemmas.Bool.{and_parts, and_from, eqb-true}
 use Rattle.std.proofs.lemmas.Bool.Decides.{nat_tests}
-use Rattle.std.proofs.lemmas.Nat.{div_below, pow_pos, pow-add}
+use Rattle.std.proofs.lemmas.Nat.{div_below, pow-add}
 use Rattle.std.proofs.lemmas.List.Sums.{fold-append}
 use Rattle.std.proofs.lemmas.List.Folds.{list_all-append}
 use Rattle.std.proofs.lemmas.Str.Parse.{IsNumeralModel, numerals_by_fold}
 use Rattle.std.proofs.lemmas.Fmt.{decimal_digit, decimal_nonempty, first_decimal, digits_decimal, digits_value-decimal}
 use Rattle.a64_decode.specs.declared.operand.Reg.{Reg}
-use Rattle.a64_asm.specs.Text.{Cut, Whole, Parts, put_before, cut_of, without_blank, operand_of, comma}
+use Rattle.a64_asm.specs.Text.{Whole, Parts, put_before, cut_of, without_blank, operand_of, comma}
 use Rattle.numerals.specs.Numeral.{value_of, has_no_leading_zero, number_of}
 use Rattle.a64_asm.specs.Number.{hex, is_hex_digit, hex_digit_value, hex_word_of}
-use Rattle.a64_asm.specs.Register.{register_of, register_text, last_name, letter_of, named}
+use Rattle.a64_asm.specs.Register.{register_of, register_text, named}
 use Rattle.a64_asm.specs.declared.register.Register.{Register}
 use Rattle.a64_asm.specs.Operand.{is_same}
 use Rattle.a64_asm.proofs.Hex.{hex_value}

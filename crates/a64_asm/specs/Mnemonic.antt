@@ -1,5 +1,5 @@
 -- The first words of the line forms.
-use Rattle.std.specs.Prelude.{ℕ, Bool, true, false, List, [], ◌∷◌, Option, codes, find}
+use Rattle.std.specs.Prelude.{ℕ, true, false, List, [], ◌∷◌, Option, codes, find}
 use Rattle.std.specs.Str.{bytes_eq}
 use Rattle.a64_decode.specs.declared.operand.Condition.{Condition}
 use Rattle.a64_decode.specs.declared.operand.Condition.TheVariants as condition

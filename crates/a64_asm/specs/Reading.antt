@@ -1,6 +1,6 @@
 -- What a line says that is one word of the image: an instruction by the form of the line, or a word as it is. Rule 1 is the
 -- form, 2 a number that the form doesn't admit, and 3 a label that no line defines.
-use Rattle.std.specs.Prelude.{ℕ, ◌+◌, ◌*◌, ◌/◌, ◌%◌, ◌==◌, ◌&&◌, ◌||◌, nat_lt, Bool, true, false, if◌then◌else◌, List, [], ◌∷◌, Option, None, Some, Result, Ok, Err}
+use Rattle.std.specs.Prelude.{ℕ, ◌/◌, ◌%◌, ◌==◌, ◌&&◌, ◌||◌, nat_lt, Bool, true, false, if◌then◌else◌, List, Option, None, Some, Result, Ok, Err}
 use Rattle.a64_decode.specs.declared.instr.Instr.TheVariants as instr
 use Rattle.a64_decode.specs.declared.operand.Condition.{Condition}
 use Rattle.a64_decode.specs.declared.operand.LogicalKind.{LogicalKind}

@@ -1,6 +1,6 @@
 -- Where the contents are told and nothing fails, the answer is what they rule.
-use Rattle.std.proofs.Common.{◌≡◌, ℕ, ◌-◌, ◌^◌, ◌<◌, List, refl, sym, ap, subst, ◌∙◌, arith, inl, inr}
-use Rattle.std.specs.Prelude.{Option, Some, ◌⊎◌}
+use Rattle.std.proofs.Common.{◌≡◌, refl, sym, ap, ◌∙◌, inl, inr}
+use Rattle.std.specs.Prelude.{Some, ◌⊎◌}
 use Rattle.outside.specs.Shelf.{Files, IfHeld}
 use Rattle.outside.proofs.Told.{risen-other, held_fact}
 use Rattle.asm_run.specs.Words.{command_of}

@@ -1,19 +1,19 @@
 -- What is made of a file, and what is written of it.
-use Rattle.std.proofs.Common.{◌≡◌, ℕ, ◌<◌, ◌≤◌, Bool, true, false, List, length, refl, sym, ap, subst, ◌∙◌, arith, inl, inr}
+use Rattle.std.proofs.Common.{◌≡◌, ℕ, ◌<◌, List, length, refl, ap, ◌∙◌, inl, inr}
 use Rattle.std.specs.Prelude.{Option, None, Some, Result, Ok, Err, Vec, nat_lt, if◌then◌else◌, IsSomeAnd}
 use Rattle.std.specs.declared.alloc.Global.{Global}
-use Rattle.outside.specs.Shelf.{Files, IfHeld, IfTold, IsFetched, Blames, Blame}
+use Rattle.outside.specs.Shelf.{Files, IfHeld, IfTold, IsFetched, Blames}
 use Rattle.outside.specs.declared.shelf.ShelfError.{ShelfError}
 use Rattle.outside.specs.declared.shelf.ShelfError.TheVariants as shelf
 use Rattle.std.proofs.lemmas.Bool.{lt-ltb}
 use Rattle.outside.specs.Sink.{Takes, HasCause}
-use Rattle.outside.specs.Use.{ShelfUse, SinkUse, IsFaultless, HasFailed, IsPut}
+use Rattle.outside.specs.Use.{ShelfUse, SinkUse, IsFaultless, IsPut}
 use Rattle.outside.proofs.Told.{every, follows}
 use Rattle.outside.specs.declared.sink.SinkFailed.{SinkFailed}
 use Rattle.asm_run.specs.Words.{Command, Assemble, Show, Unknown, Names, command_of}
 use Rattle.asm_run.specs.Call.{Call}
-use Rattle.asm_run.specs.Ruling.{Ruling, Made, Refused, source_limit, image_limit, rule_content, rule_command, rule_file}
-use Rattle.asm_run.specs.Outcome.{HasMade, IsRuled, HasFault, HasRunOut, Outcome}
+use Rattle.asm_run.specs.Ruling.{Ruling, Made, Refused, rule_content, rule_command, rule_file}
+use Rattle.asm_run.specs.Outcome.{HasMade, Outcome}
 use Rattle.asm_run.specs.Status.{refusal_text}
 use Rattle.asm_run.specs.Made.{IsMade, IsGiven, IsShown, status_of}
 use Rattle.asm_run.specs.declared.status.AsmStatus.{AsmStatus}

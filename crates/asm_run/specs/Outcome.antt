@@ -1,10 +1,10 @@
 -- What each answer of the top call means.
-use Rattle.std.specs.Prelude.{◌≡◌, ℕ, List, Option}
+use Rattle.std.specs.Prelude.{◌≡◌, ℕ, List}
 use Rattle.outside.specs.Shelf.{IfHeld}
 use Rattle.outside.specs.Use.{ShelfUse, SinkUse, IsFaultless, HasFailed, IsTaken, IsCut, IsPut}
 use Rattle.asm_run.specs.Words.{Command, Unknown, Names, command_of}
 use Rattle.asm_run.specs.Call.{Call}
-use Rattle.asm_run.specs.Ruling.{Ruling, Made, Refused, rule_content, rule_command}
+use Rattle.asm_run.specs.Ruling.{Made, Refused, rule_content, rule_command}
 use Rattle.asm_run.specs.Status.{refusal_text}
 use Rattle.asm_run.specs.declared.status.AsmStatus.{AsmStatus}
 use Rattle.asm_run.specs.declared.status.AsmStatus.TheVariants as status

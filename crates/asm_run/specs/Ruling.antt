@@ -1,5 +1,5 @@
 -- What words and contents rule: the bytes that are made, or a refusal.
-use Rattle.std.specs.Prelude.{ℕ, nat_lt, Bool, if◌then◌else◌, List, Option, None, Some, length}
+use Rattle.std.specs.Prelude.{ℕ, nat_lt, if◌then◌else◌, List, Option, None, Some, length}
 use Rattle.outside.specs.Shelf.{Files}
 use Rattle.a64_asm.specs.Listing.{listing, is_image_length}
 use Rattle.a64_asm.specs.Source.{Assembled, Image, Broken, assembled}

@@ -1,6 +1,6 @@
 -- The contract of the top call follows from what its answer means.
-use Rattle.std.proofs.Common.{◌≡◌, ◌≢◌, ℕ, ◌<◌, refl, sym, ap, ◌∙◌, inl, inr, subst, arith}
-use Rattle.std.specs.Prelude.{Option, Some, ◌⊎◌}
+use Rattle.std.proofs.Common.{◌≡◌, ◌<◌, refl, sym, ap, ◌∙◌, inl, inr}
+use Rattle.std.specs.Prelude.{Some, ◌⊎◌}
 use Rattle.outside.specs.Shelf.{Files, IfHeld}
 use Rattle.outside.specs.Sink.{grown}
 use Rattle.outside.specs.Use.{last_count}

@@ -7,7 +7,7 @@ use Rattle.std.proofs.lemmas.Bool.Decides.{nat_tests}
 use Rattle.std.proofs.lemmas.Option.{slice_get-map}
 use Rattle.bao_config.specs.Data.{ConfigData, VmData}
 use Rattle.outside.specs.Faults.{risen}
-use Rattle.outside.specs.Shelf.{Blame, Files, IfHeld, IfTold}
+use Rattle.outside.specs.Shelf.{Blame, Files, IfHeld}
 use Rattle.report.specs.declared.status.FileId.{FileId}
 use Rattle.report.specs.declared.status.FileId.TheVariants as file
 use Rattle.report.specs.declared.status.Status.{Status}

@@ -1,5 +1,5 @@
 -- The workload of a number is made and packed, but for want of memory.
-use Rattle.std.proofs.Common.{◌≡◌, ℕ, zero, suc, ◌+◌, ◌≤◌, List, [], ◌∷◌, ◌++◌, All, map, length, refl, sym, ap, subst, ◌∙◌, arith}
+use Rattle.std.proofs.Common.{◌≡◌, ℕ, suc, ◌+◌, ◌≤◌, List, [], ◌∷◌, All, map, length, refl, sym, ap, subst, ◌∙◌, arith}
 use Rattle.std.specs.Prelude.{None, Some, slice_get}
 use Rattle.bao_config.specs.Data.{ConfigData}
 use Rattle.bao_types.specs.Shape.{event_limit}
@@ -21,10 +21,9 @@ use Rattle.schedule.proofs.WorkloadRules.{well_formed}
 use Rattle.schedule.proofs.WorkloadRuns.{few_runs}
 use Rattle.vm_create.specs.Boot.{ArePlans}
 use Rattle.vm_model.specs.Apart.{FitRooms}
-use Rattle.bao_run.specs.Call.{InputData}
-use Rattle.bao_run.specs.Input.{CanPlay, IsWorkload, input_data}
+use Rattle.bao_run.specs.Input.{IsWorkload}
 use Rattle.bao_run.specs.Reading.{IsOverfull}
-use Rattle.bao_run.specs.Ruling.{Ruling, Refused, Shown, rule_packing, workload}
+use Rattle.bao_run.specs.Ruling.{Ruling, Refused, Shown, rule_packing}
 use Rattle.bao_run.specs.declared.input.Input.{Input}
 use Rattle.bao_run.proofs.Rules.{core_passes}
 

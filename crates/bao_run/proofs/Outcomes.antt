@@ -1,6 +1,5 @@
 -- From what the parts of a call answer to what its status means.
 use Rattle.std.proofs.Common.{◌≡◌, ℕ, List, refl, sym, subst, ap, ◌∙◌, inl, inr, false}
-use Rattle.std.specs.Prelude.{Option, None, Some}
 use Rattle.bao_wellformed.specs.Checked.{checked_data}
 use Rattle.outside.specs.Shelf.{Files, IfHeld}
 use Rattle.outside.specs.Use.{IsFaultless, IsPut}

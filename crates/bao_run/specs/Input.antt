@@ -1,5 +1,5 @@
 -- What reading the files of a command answers.
-use Rattle.std.specs.Prelude.{◌≡◌, ◌<◌, ◌≤◌, ◌+◌, ℕ, List, [], ◌∷◌, ◌++◌, All, Vec, Option, Some, None, Result, Ok, Err, IsSomeAnd, if◌then◌else◌, length, map, find, ⊤}
+use Rattle.std.specs.Prelude.{◌≡◌, ◌<◌, ◌≤◌, ◌+◌, ℕ, List, [], ◌∷◌, ◌++◌, All, Vec, Option, Some, None, Result, Ok, Err, IsSomeAnd, if◌then◌else◌, length, map, find}
 use Rattle.std.specs.declared.alloc.Global.{Global}
 use Rattle.std.specs.Option.{option_map}
 use Rattle.bao_types.specs.Shape.{event_limit}

@@ -10,7 +10,6 @@ use Rattle.mpu_packer.specs.declared.packing.PackError.{PackError}
 use Rattle.mpu_packer.specs.declared.packing.PackError.TheVariants as pack
 use Rattle.report.specs.declared.status.FileId.{FileId}
 use Rattle.report.specs.declared.status.FileId.TheVariants as file
-use Rattle.report.specs.declared.status.Part.TheVariants as part
 use Rattle.report.specs.declared.status.Status.{Status}
 use Rattle.report.specs.declared.status.Status.TheVariants as status
 use Rattle.schedule.specs.declared.error.ScheduleError.{ScheduleError}

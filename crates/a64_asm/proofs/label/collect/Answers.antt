@@ -1,6 +1,6 @@
-use Rattle.std.proofs.Common.{◌≡◌, ◌<◌, length, arith, rules}
+use Rattle.std.proofs.Common.{◌≡◌, arith, rules}
 use Rattle.a64_asm.specs.Text.{Whole, Parts, cut_of}
-use Rattle.a64_asm.proofs.Lines.{IsLine, first_line}
+use Rattle.a64_asm.proofs.Lines.{first_line}
 use Rattle.a64_asm.proofs.Labelled.{goes_on, ended}
 use Rattle.a64_asm.proofs.label.collect.Goals as goal
 

@@ -1,4 +1,4 @@
-use Rattle.std.proofs.Common.{◌≡◌, ◌++◌, length, ◌%◌, arith, rules}
+use Rattle.std.proofs.Common.{◌≡◌, ◌++◌, arith, rules}
 use Rattle.a64_asm.specs.Listing.{line_of_word}
 use Rattle.a64_asm.proofs.Words.{one_more, all_listed}
 use Rattle.a64_asm.proofs.listing.list_words.Goals as goal

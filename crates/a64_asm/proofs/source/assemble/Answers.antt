@@ -1,9 +1,9 @@
-use Rattle.std.proofs.Common.{◌≡◌, ℕ, List, ◌<◌, length, arith, rules}
-use Rattle.a64_asm.specs.Text.{Whole, Parts, cut_of}
+use Rattle.std.proofs.Common.{◌≡◌, ℕ, List, arith, rules}
+use Rattle.a64_asm.specs.Text.{Parts, cut_of}
 use Rattle.a64_asm.specs.Labels.{looked_up}
 use Rattle.a64_asm.specs.Source.{definitions}
 use Rattle.a64_asm.specs.Progress.{TakesLine}
-use Rattle.a64_asm.proofs.Lines.{IsLine, first_line}
+use Rattle.a64_asm.proofs.Lines.{first_line}
 use Rattle.a64_asm.proofs.Assembling.{goes_on}
 use Rattle.a64_asm.proofs.source.assemble.Goals as goal
 

@@ -1,4 +1,4 @@
-use Rattle.std.proofs.Common.{◌≡◌, rules, sym, Ok}
+use Rattle.std.proofs.Common.{◌≡◌, rules, Ok}
 use Rattle.a64_asm.specs.Labels.{looked_up}
 use Rattle.a64_asm.specs.Reading.{said_of}
 use Rattle.a64_asm.proofs.Sayable.{sayable}

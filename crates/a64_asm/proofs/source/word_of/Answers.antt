@@ -1,4 +1,4 @@
-use Rattle.std.proofs.Common.{◌≡◌, Some, sym, ap, ◌∙◌, subst}
+use Rattle.std.proofs.Common.{◌≡◌, sym, ap, ◌∙◌, subst}
 use Rattle.a64_encode.specs.Encode.{encoded}
 use Rattle.a64_asm.specs.Source.{word_said, IsSayable}
 use Rattle.a64_asm.specs.declared.said.Said.TheVariants.{Instruction}

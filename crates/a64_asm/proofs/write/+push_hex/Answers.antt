@@ -1,6 +1,4 @@
-use Rattle.std.proofs.Common.{◌≡◌, ◌++◌, ◌∷◌, [], ◌-◌, ◌/◌, ◌%◌, ◌<◌, false, sym, ap, ◌∙◌, arith, rules, append_assoc}
-use Rattle.std.specs.Fmt.{digit_glyph}
-use Rattle.a64_asm.specs.Number.{hex}
+use Rattle.std.proofs.Common.{arith, rules}
 use Rattle.a64_asm.proofs.Hex.{hex_push}
 use Rattle.a64_asm.proofs.write.+push_hex.Goals as goal
 

@@ -1,6 +1,5 @@
-use Rattle.std.proofs.Common.{◌≡◌, rules, sym, subst}
-use Rattle.std.specs.Prelude.{Some, Err}
-use Rattle.outside.specs.Shelf.{IfTold}
+use Rattle.std.proofs.Common.{sym, subst}
+use Rattle.std.specs.Prelude.{Err}
 use Rattle.outside.specs.Use.{ShelfUse, shelf_use}
 use Rattle.asm_run.specs.Words.{Show}
 use Rattle.asm_run.specs.Made.{IsMade, IsGiven}

@@ -1,5 +1,4 @@
-use Rattle.std.proofs.Common.{sym, subst, rules}
-use Rattle.std.specs.Prelude.{Ok, Err}
+use Rattle.std.proofs.Common.{rules}
 use Rattle.asm_run.proofs.Making.{shown, refused}
 use Rattle.asm_run.proofs.top.carry_out.Goals as goal
 

@@ -1,8 +1,6 @@
-use Rattle.std.proofs.Common.{sym, subst, ◌∙◌, ap}
-use Rattle.std.specs.Prelude.{◌≡◌, map}
+use Rattle.std.proofs.Common.{subst, ◌∙◌}
 use Rattle.bao_config.specs.Config.{config_data}
 use Rattle.bao_wellformed.specs.Checked.{TellsFirst, checked_data}
-use Rattle.schedule.specs.Workload.{workload_config, workload_events, workload_images}
 use Rattle.bao_run.specs.Reading.{IsOverfull}
 use Rattle.bao_run.proofs.Generated.{breaks_none, is_workload, packs_all}
 use Rattle.bao_run.proofs.input.make_input.Goals as goal
