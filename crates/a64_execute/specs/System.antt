@@ -9,6 +9,7 @@ use Rattle.a64_decode.specs.declared.operand.Reg.{Reg}
 use Rattle.a64_decode.specs.declared.operand.PstateField.{PstateField}
 use Rattle.a64_decode.specs.declared.operand.PstateField.TheVariants.{SpSel, DaifSet, DaifClr}
 use Rattle.a64_alu.specs.Numbers.{inverted}
+use Rattle.a64_sysreg.specs.declared.moment.Moment.{Moment}
 use Rattle.a64_sysreg.specs.declared.access.SysRead.{SysRead}
 use Rattle.a64_sysreg.specs.declared.access.SysRead.TheVariants as read
 use Rattle.a64_sysreg.specs.Value.{with_pstate, with_sp_sel}
@@ -20,13 +21,12 @@ with_field SpSel crm core = with_sp_sel core crm
 with_field DaifSet crm core = with_pstate core (with_daif core.pstate (bit_or (daif core.pstate) crm))
 with_field DaifClr crm core = with_pstate core (with_daif core.pstate (bit_and (daif core.pstate) (inverted 4 crm)))
 
--- what is read goes to Rt; a read of a register that the level may read and the machine has gives nothing else
+-- what is read goes to Rt; a read of a register that the level may read gives nothing else
 abbrev pub with_answer : SysRead → Reg → CoreData → CoreData
 with_answer (read.Value value) rt core = with_x core rt.0 value
 with_answer read.Undefined rt core = core
-with_answer read.Unbuilt rt core = core
 
--- MRS to Rt, and MSR from Rt, at a count
-abbrev pub with_access : Bool → SysId → Reg → ℕ → CoreData → CoreData
-with_access reads id rt now core =
-    if reads then with_answer (read_answer core now id) rt core else written core now id (x_of core rt.0)
+-- MRS to Rt, and MSR from Rt, at a moment
+abbrev pub with_access : Bool → SysId → Reg → Moment → CoreData → CoreData
+with_access reads id rt moment core =
+    if reads then with_answer (read_answer core moment id) rt core else written core moment id (x_of core rt.0)

@@ -1,10 +1,10 @@
--- What an instruction asks before it can be completed: nothing, a load or a store, that EL1 takes an exception, or that
--- EL2 takes one. What it does to the core once it has that is in Finish.
-use Rattle.std.specs.Prelude.{◌≡◌, ℕ, ◌+◌, ◌*◌, ◌^◌, ◌==◌, Option, Some, None, Bool, true, false, IsTrue, IsFalse, if◌then◌else◌}
+-- What an instruction asks before it can be completed: nothing, a load or a store, that an interrupt is taken or ends, that EL1
+-- takes an exception, or that EL2 takes one. What it does to the core once it has that is in Finish.
+use Rattle.std.specs.Prelude.{◌≡◌, ℕ, ◌+◌, ◌*◌, ◌^◌, ◌<◌, ◌==◌, Option, Some, None, Bool, true, false, IsTrue, IsFalse, if◌then◌else◌}
 use Rattle.bao_types.specs.Bytes.{IsWidth}
 use Rattle.bao_types.specs.declared.sys_id.SysId.{SysId}
 use Rattle.a64_state.specs.Core.{CoreData}
-use Rattle.a64_state.specs.Registers.{level}
+use Rattle.a64_state.specs.Registers.{level, x_of}
 use Rattle.a64_decode.specs.declared.instr.Instr.{Instr}
 use Rattle.a64_decode.specs.declared.instr.Instr.TheVariants.{Address, AddSubImmediate, LogicalImmediate, MoveWide, Bitfield, Extract, Branch, BranchConditional, CompareBranch, TestBranch, BranchRegister, ExceptionReturn, Exception, Hint, Barrier, MsrImmediate, System, SystemRegister, LogicalShifted, AddSubShifted, AddSubExtended, AddSubCarry, ConditionalCompare, ConditionalSelect, ThreeSources, TwoSources, OneSource, LoadLiteral, Pair, LoadStoreUnsigned, LoadStoreIndexed, LoadStoreRegister, Undefined}
 use Rattle.a64_decode.specs.declared.operand.ExceptionKind.{ExceptionKind}
@@ -13,10 +13,13 @@ use Rattle.a64_decode.specs.declared.operand.Reg.{Reg}
 use Rattle.a64_alu.specs.Results.{low_x}
 use Rattle.a64_address.specs.declared.shape.MemShape.{MemShape}
 use Rattle.a64_address.specs.Shape.{memory_shape, IsCount}
-use Rattle.a64_sysreg.specs.Table.{is_unbuilt}
-use Rattle.a64_sysreg.specs.Access.{may_read, may_write}
-use Rattle.exceptions.specs.declared.class.Class.TheVariants.{Unknown}
-use Rattle.exceptions.specs.Syndrome.{syndrome_of, class_number, class_of}
+use Rattle.vgic_iface.specs.Rank.{id_end}
+use Rattle.a64_sysreg.specs.Table.{acknowledges}
+use Rattle.a64_sysreg.specs.Access.{may_read, write_answer}
+use Rattle.a64_sysreg.specs.declared.access.SysWrite.{SysWrite}
+use Rattle.a64_sysreg.specs.declared.access.SysWrite.TheVariants as write
+use Rattle.exceptions.specs.declared.class.Class.TheVariants.{Unknown, SystemRegister as SystemWrite}
+use Rattle.exceptions.specs.Syndrome.{syndrome_of, class_number, class_of, register_write}
 use Rattle.a64_execute.specs.Branch.{next_pc}
 use Rattle.a64_execute.specs.declared.need.Need.{Need}
 use Rattle.a64_execute.specs.declared.need.Need.TheVariants as need
@@ -41,14 +44,22 @@ exception_need core Hvc imm16 = at_el1 core (need.Leave (call_syndrome Hvc imm16
 exception_need core Smc imm16 = at_el1 core (need.Leave (call_syndrome Smc imm16) false)
 exception_need core Brk imm16 = need.Raise (call_syndrome Brk imm16) core.pc
 
--- the level may read or write a system register
-abbrev pub may_access : CoreData → Bool → SysId → Bool
-may_access core read id = if read then may_read core id else may_write core id
+-- MRS of a register that the level may read; ICC_IAR1_EL1 asks that the interrupt is taken that it gives
+abbrev pub read_need : CoreData → SysId → Need
+read_need core id =
+    if may_read core id then if acknowledges id then need.Acknowledge else need.Done else undefined_at core
 
--- MRS and MSR of a register: undefined where there is none, and where the level may not do so
-abbrev pub register_need : CoreData → Bool → SysId → Need
-register_need core read id =
-    if may_access core read id then if is_unbuilt id then need.Unbuilt else need.Done else undefined_at core
+-- MSR of a register from Rt, by what the write comes to
+abbrev pub write_need : CoreData → SysId → Reg → SysWrite → Need
+write_need core id rt write.Done = need.Done
+write_need core id rt (write.End ended) = need.End ended
+write_need core id rt write.Undefined = undefined_at core
+write_need core id rt write.TrapEl2 = need.Leave (syndrome_of (class_number SystemWrite) (register_write id rt)) false
+
+-- MRS and MSR of a register
+abbrev pub register_need : CoreData → Bool → SysId → Reg → Need
+register_need core read id rt =
+    if read then read_need core id else write_need core id rt (write_answer core id (x_of core rt.0))
 
 -- What a row asks that has no access. A load or a store without one is a prefetch; a pair always has one.
 unfoldable pub asked : CoreData → Instr → Need
@@ -69,7 +80,7 @@ asked core (Hint crm op2) = need.Done
 asked core (Barrier crm kind) = need.Done
 asked core (MsrImmediate part crm) = at_el1 core need.Done
 asked core (System op1 crn crm op2 rt) = at_el1 core need.Done
-asked core (SystemRegister read id rt) = register_need core read id
+asked core (SystemRegister read id rt) = register_need core read id rt
 asked core (LogicalShifted wide kind shift invert rm amount rn rd) = need.Done
 asked core (AddSubShifted wide subtract flags shift rm amount rn rd) = need.Done
 asked core (AddSubExtended wide subtract flags rm extend amount rn rd) = need.Done
@@ -144,7 +155,18 @@ access_asked (need.Load shape) = Some shape
 access_asked (need.Store shape value) = Some shape
 access_asked (need.Raise esr back) = None
 access_asked (need.Leave esr behind) = None
-access_asked need.Unbuilt = None
+access_asked need.Acknowledge = None
+access_asked (need.End id) = None
+
+-- what is asked is the core's alone: the instruction reaches nothing of the world, and no exception is taken
+abbrev pub is_of_core_alone : Need → Bool
+is_of_core_alone need.Done = true
+is_of_core_alone need.Acknowledge = true
+is_of_core_alone (need.End id) = true
+is_of_core_alone (need.Load shape) = false
+is_of_core_alone (need.Store shape value) = false
+is_of_core_alone (need.Raise esr back) = false
+is_of_core_alone (need.Leave esr behind) = false
 
 -- an access of one or two elements of 1, 2, 4 or 8 bytes
 pub record IsAccess (shape : MemShape) : Type 0 where
@@ -158,13 +180,5 @@ IsNeed (need.Load shape) = IsAccess shape × IsFalse shape.store
 IsNeed (need.Store shape value) = IsAccess shape × IsTrue shape.store
 IsNeed (need.Raise esr back) = Unit {0}
 IsNeed (need.Leave esr behind) = Unit {0}
-IsNeed need.Unbuilt = Unit {0}
-
--- the instruction reads or writes a register that its level may, and that the machine doesn't have yet
-pub record IsOfMissing (core : CoreData) (instr : Instr) : Type 0 where
-  pub read : Bool
-  pub id : SysId
-  pub rt : Reg
-  pub instr_is : instr ≡ SystemRegister read id rt
-  pub allowed : IsTrue (may_access core read id)
-  pub missing : IsTrue (is_unbuilt id)
+IsNeed need.Acknowledge = Unit {0}
+IsNeed (need.End id) = id < id_end

@@ -1,31 +1,29 @@
-ghost use Rattle.std.specs.Prelude.{◌≡◌, IsNone, Some};
+ghost use Rattle.std.specs.Prelude.{◌≡◌, IsTrue, Some};
 ghost use Rattle.a64_decode.specs.Lawful.{IsLawful};
 ghost use Rattle.a64_address.specs.Shape.{memory_shape};
-ghost use Rattle.a64_execute.specs.Want.{wanted, access_asked};
+ghost use Rattle.a64_execute.specs.Want.{wanted, access_asked, is_of_core_alone};
 ghost use Rattle.a64_execute.specs.Finish.{finished};
 
-use crate::Need;
 use crate::branch::advance;
 use crate::execute::execute;
 use crate::transfer::transfer;
 use a64_address::MemShape;
 use a64_decode::Instr;
 use a64_state::Core;
+use a64_sysreg::Moment;
 
-/// Completes an instruction for which [`want`](crate::want) gave Done: writes its registers, and goes on to the next
-/// instruction, to a branch's target, or to where an exception returns.
+/// Completes an instruction for which [`want`](crate::want) gave Done, Acknowledge or End: writes its registers, and goes
+/// on to the next instruction, to a branch's target, or to where an exception returns.
 ///
-/// `now` is the step's system count, which the registers of the timer will show. The answer is the interrupt that the instruction
-/// ends; no row that is built ends one yet.
-#[tactic(auto, using(crate::proofs::Shapes::done_row, crate::proofs::Shapes::done_finished))]
-pub fn complete(core: &mut Core, now: u64, instr: &Instr) -> Option<u16>
+/// The system registers of the timer and of the interrupt interface show the moment. The interrupt that the instruction
+/// takes or ends is the interrupt interface's.
+#[tactic(auto, using(crate::proofs::Shapes::alone_row, crate::proofs::Shapes::alone_finished))]
+pub fn complete(core: &mut Core, moment: Moment, instr: &Instr)
     requires lawful { IsLawful instr.now }
-    requires need { wanted core.old instr.now ≡ Need.Done }
-    ensures core { core.new ≡ finished core.old now instr.now 0 }
-    ensures end { IsNone result }
+    requires need { IsTrue (is_of_core_alone (wanted core.old instr.now)) }
+    ensures { core.new ≡ finished core.old moment instr.now 0 }
 {
-    execute(core, now, instr);
-    None
+    execute(core, moment, instr);
 }
 
 /// Completes an instruction for which [`want`](crate::want) gave a Load or a Store of this shape, once the world has
@@ -33,12 +31,12 @@ pub fn complete(core: &mut Core, now: u64, instr: &Instr) -> Option<u16>
 ///
 /// `got` is what was loaded: the bytes of the access in address order as one little-endian number, for a pair the second
 /// element from bit 8 times the width on. It means nothing where nothing was loaded.
-pub fn complete_access(core: &mut Core, now: u64, instr: &Instr, shape: &MemShape, got: u128)
+pub fn complete_access(core: &mut Core, moment: Moment, instr: &Instr, shape: &MemShape, got: u128)
     requires lawful { IsLawful instr.now }
     requires need { access_asked (wanted core.old instr.now) ≡ Some shape.now }
-    ensures { core.new ≡ finished core.old now instr.now got }
+    ensures { core.new ≡ finished core.old moment instr.now got }
 {
-    let _ = now;
+    let _ = moment;
     transfer(core, instr, shape, got);
     advance(core);
 }

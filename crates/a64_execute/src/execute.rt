@@ -1,42 +1,42 @@
-//! The instructions that have no access and ask for nothing.
+//! The instructions that have no access and take no exception.
 
-ghost use Rattle.std.specs.Prelude.{◌≡◌, IsFalse};
+ghost use Rattle.std.specs.Prelude.{◌≡◌, IsTrue, IsFalse};
 ghost use Rattle.a64_decode.specs.Lawful.{IsLawful};
 ghost use Rattle.a64_alu.specs.Computed.{is_data_processing};
-ghost use Rattle.a64_execute.specs.Want.{asked};
+ghost use Rattle.a64_execute.specs.Want.{asked, is_of_core_alone};
 ghost use Rattle.a64_execute.specs.Execute.{executed};
 
-use crate::Need;
 use crate::branch::{advance, branch_if, jump, target};
 use crate::system::{access_register, write_field};
 use a64_alu::{alu, holds, is_alu, low_x};
 use a64_decode::{BranchKind, Instr, width};
 use a64_state::Core;
+use a64_sysreg::Moment;
 use exceptions::eret;
 
-/// Carries out an instruction that asked for nothing, at the count `now`.
+/// Carries out an instruction whose need is the core's alone, at a moment.
 #[tactic(auto, using(crate::proofs::Shapes::computes))]
-pub(crate) fn execute(core: &mut Core, now: u64, instr: &Instr)
+pub(crate) fn execute(core: &mut Core, moment: Moment, instr: &Instr)
     requires lawful { IsLawful instr.now }
-    requires need { asked core.old instr.now ≡ Need.Done }
-    ensures { core.new ≡ executed instr.now now core.old }
+    requires need { IsTrue (is_of_core_alone (asked core.old instr.now)) }
+    ensures { core.new ≡ executed instr.now moment core.old }
 {
     if is_alu(instr) {
         alu(core, instr);
         advance(core);
     } else {
-        execute_other(core, now, instr);
+        execute_other(core, moment, instr);
     }
 }
 
 /// Carries it out where it isn't data processing.
 #[rattlefmt::skip]
 #[tactic(auto, unfolding(crate::specs::Execute::executed, crate::specs::Want::asked))]
-fn execute_other(core: &mut Core, now: u64, instr: &Instr)
+fn execute_other(core: &mut Core, moment: Moment, instr: &Instr)
     requires lawful { IsLawful instr.now }
-    requires need { asked core.old instr.now ≡ Need.Done }
+    requires need { IsTrue (is_of_core_alone (asked core.old instr.now)) }
     requires other { IsFalse (is_data_processing instr.now) }
-    ensures { core.new ≡ executed instr.now now core.old }
+    ensures { core.new ≡ executed instr.now moment core.old }
 {
     match *instr {
         Instr::Branch { link, offset } => {
@@ -62,7 +62,7 @@ fn execute_other(core: &mut Core, now: u64, instr: &Instr)
             advance(core);
         }
         Instr::SystemRegister { read, id, rt } => {
-            access_register(core, now, read, id, rt);
+            access_register(core, moment, read, id, rt);
             advance(core);
         }
         Instr::System { .. } | Instr::Hint { .. } | Instr::Barrier { .. } | Instr::LoadLiteral { .. }

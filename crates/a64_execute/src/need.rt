@@ -1,22 +1,28 @@
 ghost use Rattle.std.specs.Prelude.{◌≡◌, ◌+◌, ◌*◌, ◌<◌, ◌^◌, ◌↔◌, if◌then◌else◌};
 ghost use Rattle.bao_types.specs.Bytes.{IsWidth};
 ghost use Rattle.a64_decode.specs.Lawful.{IsLawful, IsReg, IsSysId};
+ghost use Rattle.a64_state.specs.Registers.{x_of};
+ghost use Rattle.a64_sysreg.specs.Access.{write_answer};
 ghost use Rattle.a64_alu.specs.Results.{low_x as low_x_of};
-ghost use Rattle.a64_execute.specs.Want.{wanted, asked as asked_by, undefined_at, at_el1 as at_el1_of, exception_need, may_access as may_access_in, register_need, stored_value as stored_value_of, IsNeed, IsOfMissing};
+ghost use Rattle.a64_execute.specs.Want.{wanted, asked as asked_by, undefined_at, at_el1 as at_el1_of, exception_need, read_need, write_need, register_need, stored_value as stored_value_of, IsNeed};
 
 use a64_address::{MemShape, shape_of};
 use a64_alu::low_x;
 use a64_decode::{ExceptionKind, Instr, Reg};
 use a64_state::Core;
-use a64_sysreg::{is_unbuilt, may_read, may_write};
+use a64_sysreg::{SysWrite, acknowledges, may_read, write_answer};
 use bao_types::SysId;
-use exceptions::{Class, exception_syndrome, syndrome};
+use exceptions::{Class, exception_syndrome, register_write_syndrome, syndrome};
 
 /// What an instruction asks before it can be completed.
 #[derive(Clone, Copy, Debug, PartialEq, Eq)]
 pub enum Need {
     /// Nothing.
     Done,
+    /// That the interrupt interface takes the interrupt that it shows, if it shows one: the read of ICC_IAR1_EL1.
+    Acknowledge,
+    /// That the interrupt interface ends the interrupt with this number, below 96: the write of ICC_EOIR1_EL1.
+    End { id: u16 },
     /// The bytes of an access.
     Load { shape: MemShape },
     /// That the bytes of an access are written: `value` is these bytes in address order as one little-endian number.
@@ -25,20 +31,14 @@ pub enum Need {
     Raise { esr: u64, back: u64 },
     /// That EL2 takes an exception of this syndrome. PC goes behind the instruction where `behind` says so, else it stays.
     Leave { esr: u64, behind: bool },
-    /// A system register that the machine doesn't have yet.
-    Unbuilt,
 }
 
 /// What an instruction asks before it can be completed. Nothing changes.
-///
-/// `Unbuilt` comes exactly for the accesses to system registers that the level may make, and whose register the machine
-/// doesn't have yet.
 #[tactic(auto, unfolding(crate::specs::Want::wanted))]
 pub fn want(core: &Core, instr: &Instr) -> Need
     requires { IsLawful instr.now }
     ensures need { result ≡ wanted core.now instr.now }
     ensures bounds { IsNeed result }
-    ensures unbuilt { (result ≡ Need.Unbuilt) ↔ IsOfMissing core.now instr.now }
 {
     match shape_of(core, instr) {
         Some(shape) if shape.store => Need::Store {
@@ -61,7 +61,7 @@ fn asked(core: &Core, instr: &Instr) -> Need
     match *instr {
         Instr::ExceptionReturn | Instr::MsrImmediate { .. } | Instr::System { .. } => at_el1(core, Need::Done),
         Instr::Exception { kind, imm16 } => exception(core, kind, imm16),
-        Instr::SystemRegister { read, id, .. } => register(core, read, id),
+        Instr::SystemRegister { read, id, rt } => register(core, read, id, rt),
         Instr::Undefined => undefined(core),
         Instr::Address { .. } | Instr::AddSubImmediate { .. } | Instr::LogicalImmediate { .. } | Instr::MoveWide { .. }
         | Instr::Bitfield { .. } | Instr::Extract { .. } | Instr::Branch { .. } | Instr::BranchConditional { .. }
@@ -113,28 +113,49 @@ fn exception(core: &Core, kind: ExceptionKind, imm16: u16) -> Need
 }
 
 /// What MRS and MSR of a register ask.
-fn register(core: &Core, read: bool, id: SysId) -> Need
-    ensures need { result ≡ register_need core.now read id }
+fn register(core: &Core, read: bool, id: SysId, rt: Reg) -> Need
+    requires id { IsSysId id }
+    requires rt { IsReg rt }
+    ensures need { result ≡ register_need core.now read id rt }
     ensures bounds { IsNeed result }
 {
-    if !may_access(core, read, id) {
+    if read {
+        read_register(core, id)
+    } else {
+        write_register(core, id, rt)
+    }
+}
+
+/// What MRS of a register asks.
+fn read_register(core: &Core, id: SysId) -> Need
+    ensures need { result ≡ read_need core.now id }
+    ensures bounds { IsNeed result }
+{
+    if !may_read(core, id) {
         return undefined(core);
     }
-    if is_unbuilt(id) {
-        Need::Unbuilt
+    if acknowledges(id) {
+        Need::Acknowledge
     } else {
         Need::Done
     }
 }
 
-/// Whether the level may read or write a system register.
-fn may_access(core: &Core, read: bool, id: SysId) -> bool
-    ensures { result ≡ may_access_in core.now read id }
+/// What MSR of a register asks.
+fn write_register(core: &Core, id: SysId, rt: Reg) -> Need
+    requires id { IsSysId id }
+    requires rt { IsReg rt }
+    ensures need { result ≡ write_need core.now id rt (write_answer core.now id (x_of core.now rt.0)) }
+    ensures bounds { IsNeed result }
 {
-    if read {
-        may_read(core, id)
-    } else {
-        may_write(core, id)
+    match write_answer(core, id, core.read_x(rt.0)) {
+        SysWrite::Done => Need::Done,
+        SysWrite::End(id) => Need::End { id },
+        SysWrite::Undefined => undefined(core),
+        SysWrite::TrapEl2 => Need::Leave {
+            esr: register_write_syndrome(id, rt),
+            behind: false,
+        },
     }
 }
 

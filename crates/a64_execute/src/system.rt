@@ -1,15 +1,14 @@
 //! MRS, and MSR of a register and of a field of PSTATE, but for the step of PC.
 
-ghost use Rattle.std.specs.Prelude.{◌≡◌, ◌<◌, true, false, bit_or, bit_and, if◌then◌else◌};
+ghost use Rattle.std.specs.Prelude.{◌≡◌, ◌<◌, IsTrue, true, false, bit_or, bit_and, if◌then◌else◌};
 ghost use Rattle.a64_decode.specs.Lawful.{IsReg};
 ghost use Rattle.a64_alu.specs.Numbers.{inverted};
-ghost use Rattle.a64_execute.specs.Want.{register_need};
+ghost use Rattle.a64_execute.specs.Want.{is_of_core_alone, read_need, register_need};
 ghost use Rattle.a64_execute.specs.System.{with_field, with_access};
 
-use crate::Need;
 use a64_decode::{PstateField, Reg};
 use a64_state::{Core, Mode, pstate};
-use a64_sysreg::{SysRead, SysWrite, read_sys, write_sys};
+use a64_sysreg::{Moment, SysRead, SysWrite, read_sys, write_sys};
 use bao_types::SysId;
 
 /// Writes an immediate of four bits to a field of PSTATE; the core is at EL1.
@@ -54,43 +53,41 @@ fn with_clear(bits: u32, less: u32) -> u32
     bits & (15 - less)
 }
 
-/// Reads a system register into Rt, or writes it from Rt, at the count `now`; the level may do so, and the machine has the
-/// register.
-pub(crate) fn access_register(core: &mut Core, now: u64, read: bool, id: SysId, rt: Reg)
+/// Reads a system register into Rt, or writes it from Rt, at a moment; the level may do so.
+pub(crate) fn access_register(core: &mut Core, moment: Moment, read: bool, id: SysId, rt: Reg)
     requires rt { IsReg rt }
-    requires need { register_need core.old read id ≡ Need.Done }
-    ensures { core.new ≡ with_access read id rt now core.old }
+    requires need { IsTrue (is_of_core_alone (register_need core.old read id rt)) }
+    ensures { core.new ≡ with_access read id rt moment core.old }
 {
     if read {
-        read_register(core, now, id, rt);
+        read_register(core, moment, id, rt);
     } else {
-        write_register(core, now, id, rt);
+        write_register(core, moment, id, rt);
     }
 }
 
 /// MRS, but for the step of PC.
-#[tactic(auto, using(crate::proofs::Shapes::done_register))]
-fn read_register(core: &mut Core, now: u64, id: SysId, rt: Reg)
+#[tactic(auto, using(crate::proofs::Shapes::may_be_read))]
+fn read_register(core: &mut Core, moment: Moment, id: SysId, rt: Reg)
     requires rt { IsReg rt }
-    requires need { register_need core.old true id ≡ Need.Done }
-    ensures { core.new ≡ with_access true id rt now core.old }
+    requires need { IsTrue (is_of_core_alone (read_need core.old id)) }
+    ensures { core.new ≡ with_access true id rt moment core.old }
 {
-    match read_sys(core, now, id) {
+    match read_sys(core, moment, id) {
         SysRead::Value(value) => core.write_x(rt.0, value),
-        SysRead::Undefined | SysRead::Unbuilt => unreachable!(),
+        SysRead::Undefined => unreachable!(),
     }
 }
 
 /// MSR of a register, but for the step of PC.
-#[tactic(auto, using(crate::proofs::Shapes::done_register))]
-fn write_register(core: &mut Core, now: u64, id: SysId, rt: Reg)
+fn write_register(core: &mut Core, moment: Moment, id: SysId, rt: Reg)
     requires rt { IsReg rt }
-    requires need { register_need core.old false id ≡ Need.Done }
-    ensures { core.new ≡ with_access false id rt now core.old }
+    requires need { IsTrue (is_of_core_alone (register_need core.old false id rt)) }
+    ensures { core.new ≡ with_access false id rt moment core.old }
 {
     let value = core.read_x(rt.0);
-    match write_sys(core, now, id, value) {
-        SysWrite::Done => {}
-        SysWrite::Undefined | SysWrite::TrapEl2 | SysWrite::Unbuilt => unreachable!(),
+    match write_sys(core, moment, id, value) {
+        SysWrite::Done | SysWrite::End(_) => {}
+        SysWrite::Undefined | SysWrite::TrapEl2 => unreachable!(),
     }
 }

@@ -1,6 +1,7 @@
 use crate::{Need, complete, complete_access, want};
 use a64_decode::decode;
 use a64_state::{Core, Mode, pstate};
+use a64_sysreg::Moment;
 use std::process::Abort;
 
 /// A load or a store: its instruction and word, the address, the bytes of an element, the elements, what is loaded or
@@ -17,6 +18,12 @@ const HIGH: u128 = 0xF1E2_D3C4_B5A6_9788_8796_A5B4_C3D2_E1F0;
 const LOW: u128 = 0x0F1E_2D3C_4B5A_6978_7869_5A4B_3C2D_1E0F;
 
 const X0: u64 = 0x0123_4567_89AB_CDEF;
+
+/// What the registers of the timer and of the interrupt interface show.
+const NOW: Moment = Moment {
+    count: 150,
+    signal: Some(41),
+};
 /// The base of most rows.
 const X1: u64 = 0x1_0000;
 /// An offset whose lowest word is negative: it is 0xFFFF_FFF0, or -16 with its sign.
@@ -391,9 +398,9 @@ fn step_agrees(rt: &impl Abort, pc: u64, row: &Step) {
     let Need::Done = want(&core, &instr) else {
         panic!(rt; "{shows}");
     };
-    let end = complete(&mut core, 0, &instr);
-    let seen = (core.pc, end, core == expected);
-    assert_eq!(rt; seen, (pc_after, None, true), "{shows}");
+    complete(&mut core, NOW, &instr);
+    let seen = (core.pc, core == expected);
+    assert_eq!(rt; seen, (pc_after, true), "{shows}");
 }
 
 fn loads_agree(rt: &impl Abort, pc: u64, rows: &[Access]) {
@@ -459,8 +466,8 @@ fn bit_is_tested(rt: &impl Abort, word: u32, x0: u64, pc: u64) {
     let Need::Done = want(&core, &instr) else {
         panic!(rt; "{word:08X}");
     };
-    let end = complete(&mut core, 0, &instr);
-    assert!(rt; end.is_none() && core == expected, "{word:08X}");
+    complete(&mut core, NOW, &instr);
+    assert!(rt; core == expected, "{word:08X}");
 }
 
 #[test]
@@ -529,6 +536,10 @@ const SMC_0: Need = Need::Leave { esr: 0x5E00_0000, behind: false };
 #[rattlefmt::skip]
 const SMC_65535: Need = Need::Leave { esr: 0x5E00_FFFF, behind: false };
 
+/// EL2 takes the write of ICC_SGI1R_EL1 from X0, by class 0x18.
+#[rattlefmt::skip]
+const SGI: Need = Need::Leave { esr: 0x623A_3016, behind: false };
+
 /// What an instruction asks at EL1 with its own SP, and at EL0.
 type Asks = (&'static str, u32, Need, Need);
 
@@ -555,7 +566,7 @@ static UNDEFINED_WORDS: [Asks; 4] = [
 ];
 
 #[rattlefmt::skip]
-static REGISTERS: [Asks; 28] = [
+static REGISTERS: [Asks; 32] = [
     // shows                  word         at EL1         at EL0
     ("msr spsel, #1",         0xD500_41BF, Need::Done,    UNDEFINED),
     ("msr daifset, #2",       0xD503_42DF, Need::Done,    UNDEFINED),
@@ -575,14 +586,18 @@ static REGISTERS: [Asks; 28] = [
     ("msr prbar_el1, x0",     0xD518_6800, Need::Done,    UNDEFINED),
     ("mrs x0, prlar_el1",     0xD538_6820, Need::Done,    UNDEFINED),
     ("mrs x0, prbar1_el1",    0xD538_6880, UNDEFINED,     UNDEFINED),
-    ("mrs x0, icc_pmr_el1",   0xD538_4600, Need::Unbuilt, UNDEFINED),
-    ("msr icc_sgi1r_el1, x0", 0xD518_CBA0, Need::Unbuilt, UNDEFINED),
+    ("mrs x0, icc_pmr_el1",   0xD538_4600, Need::Done,    UNDEFINED),
+    ("msr icc_sgi1r_el1, x0", 0xD518_CBA0, SGI,           UNDEFINED),
     ("mrs x0, icc_sgi1r_el1", 0xD538_CBA0, UNDEFINED,     UNDEFINED),
-    ("mrs x0, icc_iar1_el1",  0xD538_CC00, Need::Unbuilt, UNDEFINED),
-    ("msr icc_eoir1_el1, x0", 0xD518_CC20, Need::Unbuilt, UNDEFINED),
-    ("msr cntv_ctl_el0, x0",  0xD51B_E320, Need::Unbuilt, UNDEFINED),
-    ("mrs x0, cntv_cval_el0", 0xD53B_E340, Need::Unbuilt, UNDEFINED),
-    ("mrs x0, cntvct_el0",    0xD53B_E040, Need::Unbuilt, Need::Unbuilt),
+    ("mrs x0, icc_iar1_el1",  0xD538_CC00, Need::Acknowledge, UNDEFINED),
+    ("mrs xzr, icc_iar1_el1", 0xD538_CC1F, Need::Acknowledge, UNDEFINED),
+    ("msr icc_iar1_el1, x0",  0xD518_CC00, UNDEFINED,     UNDEFINED),
+    ("mrs x0, icc_hppir1_el1",0xD538_CC40, Need::Done,    UNDEFINED),
+    ("msr icc_eoir1_el1, x0", 0xD518_CC20, Need::Done,    UNDEFINED),
+    ("msr icc_eoir1_el1, xzr",0xD518_CC3F, Need::End { id: 0 }, UNDEFINED),
+    ("msr cntv_ctl_el0, x0",  0xD51B_E320, Need::Done,    UNDEFINED),
+    ("mrs x0, cntv_cval_el0", 0xD53B_E340, Need::Done,    UNDEFINED),
+    ("mrs x0, cntvct_el0",    0xD53B_E040, Need::Done,    Need::Done),
     ("msr cntvct_el0, x0",    0xD51B_E040, UNDEFINED,     UNDEFINED),
     ("mrs x0, fpcr",          0xD53B_4400, UNDEFINED,     UNDEFINED),
 ];
@@ -619,9 +634,6 @@ fn sp_el0_while_selected(rt: HostRuntime) {
     assert_eq!(rt; asked, [UNDEFINED, UNDEFINED, Need::Done]);
 }
 
-/// The count at which the rows below are executed.
-const NOW: u64 = 150;
-
 /// SP_EL0 before them.
 const SP0: u64 = 0x2000;
 
@@ -629,7 +641,7 @@ const SP0: u64 = 0x2000;
 type Effect = (&'static str, u32, u32, [u64; 4]);
 
 #[rattlefmt::skip]
-static EFFECTS: [Effect; 17] = [
+static EFFECTS: [Effect; 22] = [
     // shows                word         PSTATE       PC      PSTATE       X0           SP_EL0
     ("eret to el0",         0xD69F_03E0, 0x0000_03C5, [0x9000, 0x6000_0000, X0,          SP0]),
     ("msr spsel, #0",       0xD500_40BF, 0x0000_03C5, [0x4004, 0x0000_03C4, X0,          SP0]),
@@ -648,6 +660,11 @@ static EFFECTS: [Effect; 17] = [
     ("msr nzcv, x0 at el0", 0xD51B_4200, 0x7000_0000, [0x4004, 0x8000_0000, X0,          SP0]),
     ("mrs xzr, nzcv",       0xD53B_421F, 0xA000_0005, [0x4004, 0xA000_0005, X0,          SP0]),
     ("dc civac, x1",        0xD50B_7E21, 0x0000_03C5, [0x4004, 0x0000_03C5, X0,          SP0]),
+    ("mrs x0, cntvct_el0",  0xD53B_E040, 0x0000_0000, [0x4004, 0x0000_0000, 150,         SP0]),
+    ("mrs x0, icc_iar1_el1",0xD538_CC00, 0x0000_03C5, [0x4004, 0x0000_03C5, 41,          SP0]),
+    ("mrs xzr, icc_iar1_el1",0xD538_CC1F,0x0000_03C5, [0x4004, 0x0000_03C5, X0,          SP0]),
+    ("mrs x0, icc_rpr_el1", 0xD538_CB60, 0x0000_03C5, [0x4004, 0x0000_03C5, 0xFF,        SP0]),
+    ("msr icc_eoir1_el1, xzr",0xD518_CC3F,0x0000_03C5,[0x4004, 0x0000_03C5, X0,          SP0]),
 ];
 
 #[test]
@@ -670,21 +687,20 @@ fn effect_agrees(rt: &impl Abort, row: &Effect) {
     expected.write_x(0, x0);
     expected.sp0 = sp0;
     let instr = decode(word);
-    let Need::Done = want(&core, &instr) else {
+    let (Need::Done | Need::Acknowledge | Need::End { .. }) = want(&core, &instr) else {
         panic!(rt; "{shows}");
     };
-    let end = complete(&mut core, NOW, &instr);
+    complete(&mut core, NOW, &instr);
     let seen = (
         core.pc,
         core.pstate,
         core.read_x(0),
         core.sp0,
-        end,
         core == expected,
     );
     assert_eq!(rt;
         seen,
-        (pc_after, expected.pstate, x0, sp0, None, true),
+        (pc_after, expected.pstate, x0, sp0, true),
         "{shows}"
     );
 }

@@ -23,6 +23,10 @@ overflow_flag pstate = field pstate 28 28 == 1
 abbrev pub illegal_state : ℕ → Bool
 illegal_state pstate = field pstate 20 20 == 1
 
+-- I, which masks IRQ
+abbrev pub masks_irq : ℕ → Bool
+masks_irq pstate = field pstate 7 7 == 1
+
 -- M, the mode
 abbrev pub mode : ℕ → ℕ
 mode pstate = field pstate 4 0

@@ -67,12 +67,6 @@ reset_core affinity =
           };
       regions = record { select = 0; regions = replicate 16 (record { base = 0; limit = 0 }) };
       timer = record { ctl = 0; cval = 0; level = false };
-      iface =
-          record {
-            pmr = 0;
-            group = false;
-            active = 0;
-            lists = replicate 4 (record { id = 0; priority = 0; pending = false; active = false });
-          };
+      iface = record { pmr = 0; group = false; active = 0 };
       affinity = affinity;
     }

@@ -1,7 +1,7 @@
 ghost use Rattle.std.specs.Prelude.{◌≡◌, ◌≤◌, ◌<◌};
 
 use crate::{Mode, pstate};
-use bao_types::{IfaceRegs, ListReg, Region, RegionFile, TimerRegs};
+use bao_types::{IfaceRegs, Region, RegionFile, TimerRegs};
 use std::marker::Model;
 
 /// The system registers of EL1 and EL0 that only keep what is written to them, or that hold the state of an
@@ -66,11 +66,10 @@ impl Model for Core {
 
 impl Core {
     ghost use Rattle.a64_state.specs.Registers.{x_of, with_x, sp_of, with_sp, x_or_sp, with_x_or_sp, level, reset_core};
-    ghost use Rattle.a64_state.specs.Pstate.{mode, with_flags, with_illegal_state, with_daif};
+    ghost use Rattle.a64_state.specs.Pstate.{masks_irq, mode, with_flags, with_illegal_state, with_daif};
     ghost use Rattle.a64_state.specs.Mode.{number_of, with_mode};
 
-    /// A core after a reset: EL1 with its own stack pointer, all interrupts masked, all other registers 0, and all
-    /// list registers free.
+    /// A core after a reset: EL1 with its own stack pointer, all interrupts masked, and all other registers 0.
     pub fn reset(affinity: u8) -> Core
         ensures { result ≡ reset_core affinity }
     {
@@ -94,12 +93,6 @@ impl Core {
                 pmr: 0,
                 group: false,
                 active: 0,
-                lists: [ListReg {
-                    id: 0,
-                    priority: 0,
-                    pending: false,
-                    active: false,
-                }; 4],
             },
             affinity,
         }
@@ -128,6 +121,13 @@ impl Core {
         ensures { result ≡ level self.now }
     {
         (self.pstate / 4 % 4) as u8
+    }
+
+    /// PSTATE.I: whether IRQ is masked.
+    pub fn masks_irq(&self) -> bool
+        ensures { result ≡ masks_irq self.now.pstate }
+    {
+        self.pstate / (1 << 7) % 2 == 1
     }
 
     /// SP: the stack pointer that PSTATE selects.

@@ -1,5 +1,5 @@
 mod Undefined
 mod Kept
-mod Built
+mod Ended
 mod Numbers
 mod Regions

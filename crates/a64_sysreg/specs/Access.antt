@@ -1,13 +1,15 @@
 -- What MRS and MSR do with the register that they name.
-use Rattle.std.specs.Prelude.{ℕ, Bool, true, false, if◌then◌else◌, Option, Some, None}
+use Rattle.std.specs.Prelude.{ℕ, ◌<◌, Bool, true, false, if◌then◌else◌, Option, Some, None}
 use Rattle.bao_types.specs.declared.sys_id.SysId.{SysId}
 use Rattle.a64_state.specs.Core.{CoreData}
 use Rattle.a64_state.specs.Pstate.{mode}
+use Rattle.a64_sysreg.specs.declared.moment.Moment.{Moment}
 use Rattle.a64_sysreg.specs.declared.register.Register.{Register}
 use Rattle.a64_sysreg.specs.declared.access.SysRead.{SysRead}
 use Rattle.a64_sysreg.specs.declared.access.SysRead.TheVariants as read
 use Rattle.a64_sysreg.specs.declared.access.SysWrite.{SysWrite}
 use Rattle.a64_sysreg.specs.declared.access.SysWrite.TheVariants as write
+use Rattle.vgic_iface.specs.Rank.{id_end}
 use Rattle.a64_sysreg.specs.Row.{allows_read, allows_write}
 use Rattle.a64_sysreg.specs.Table.{row, register_of}
 
@@ -22,21 +24,22 @@ is_writable core None = false
 is_writable core (Some register) = allows_write ((row register).rights (mode core.pstate))
 
 -- what a read of the register answers
-abbrev pub read_of : CoreData → ℕ → Option Register → SysRead
-read_of core now None = read.Undefined
-read_of core now (Some register) =
-    if is_readable core (Some register) then (row register).read core now else read.Undefined
+abbrev pub read_of : CoreData → Moment → Option Register → SysRead
+read_of core moment None = read.Undefined
+read_of core moment (Some register) =
+    if is_readable core (Some register) then (row register).read core moment else read.Undefined
 
--- what a write answers
-abbrev pub answer_of : CoreData → Option Register → SysWrite
-answer_of core None = write.Undefined
-answer_of core (Some register) = if is_writable core (Some register) then (row register).answer else write.Undefined
+-- what a write of a value answers
+abbrev pub answer_of : CoreData → Option Register → ℕ → SysWrite
+answer_of core None value = write.Undefined
+answer_of core (Some register) value =
+    if is_writable core (Some register) then (row register).answer value else write.Undefined
 
 -- the core after a write; a write that isn't allowed leaves it
-abbrev pub written_of : CoreData → ℕ → Option Register → ℕ → CoreData
-written_of core now None value = core
-written_of core now (Some register) value =
-    if is_writable core (Some register) then (row register).after core now value else core
+abbrev pub written_of : CoreData → Moment → Option Register → ℕ → CoreData
+written_of core moment None value = core
+written_of core moment (Some register) value =
+    if is_writable core (Some register) then (row register).after core moment value else core
 
 -- the level may read the register with this number
 unfoldable pub may_read : CoreData → SysId → Bool
@@ -45,19 +48,20 @@ may_read core id = is_readable core (register_of id)
 unfoldable pub may_write : CoreData → SysId → Bool
 may_write core id = is_writable core (register_of id)
 
--- a read gives a value
-abbrev pub gives_value : SysRead → Bool
-gives_value (read.Value value) = true
-gives_value read.Undefined = false
-gives_value read.Unbuilt = false
-
 -- MRS
-unfoldable pub read_answer : CoreData → ℕ → SysId → SysRead
-read_answer core now id = read_of core now (register_of id)
+unfoldable pub read_answer : CoreData → Moment → SysId → SysRead
+read_answer core moment id = read_of core moment (register_of id)
 
 -- MSR
-unfoldable pub write_answer : CoreData → SysId → SysWrite
-write_answer core id = answer_of core (register_of id)
+unfoldable pub write_answer : CoreData → SysId → ℕ → SysWrite
+write_answer core id value = answer_of core (register_of id) value
 
-unfoldable pub written : CoreData → ℕ → SysId → ℕ → CoreData
-written core now id value = written_of core now (register_of id) value
+unfoldable pub written : CoreData → Moment → SysId → ℕ → CoreData
+written core moment id value = written_of core moment (register_of id) value
+
+-- an interrupt that is ended is one of a core's
+abbrev pub EndsAnId : SysWrite → Type 0
+EndsAnId write.Done = Unit {0}
+EndsAnId (write.End id) = id < id_end
+EndsAnId write.Undefined = Unit {0}
+EndsAnId write.TrapEl2 = Unit {0}

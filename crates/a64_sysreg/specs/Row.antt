@@ -5,6 +5,7 @@ use Rattle.a64_state.specs.Core.{CoreData}
 use Rattle.a64_state.specs.Mode.{number_of}
 use Rattle.a64_state.specs.declared.mode.Mode.TheVariants.{El0t, El1h}
 use Rattle.a64_state.specs.declared.registers.SysRegs.{SysRegs}
+use Rattle.a64_sysreg.specs.declared.moment.Moment.{Moment}
 use Rattle.a64_sysreg.specs.declared.rights.Rights.{Rights}
 use Rattle.a64_sysreg.specs.declared.rights.Rights.TheVariants.{Nothing, Read, Write, ReadWrite}
 use Rattle.a64_sysreg.specs.declared.access.SysRead.{SysRead}
@@ -17,12 +18,12 @@ pub record Row : Type 0 where
   pub number : SysId → Bool
   -- what may be done with it in a mode
   pub rights : ℕ → Rights
-  -- what a read gives, of the core at a count
-  pub read : CoreData → ℕ → SysRead
-  -- the core after a write of a value at a count
-  pub after : CoreData → ℕ → ℕ → CoreData
-  -- what a write answers
-  pub answer : SysWrite
+  -- what a read gives, of the core at a moment
+  pub read : CoreData → Moment → SysRead
+  -- the core after a write of a value at a moment
+  pub after : CoreData → Moment → ℕ → CoreData
+  -- what a write of a value answers
+  pub answer : ℕ → SysWrite
 
 -- the register's number: op0, op1, CRn, CRm and op2
 abbrev pub numbered : ℕ → ℕ → ℕ → ℕ → ℕ → SysId → Bool
@@ -62,51 +63,40 @@ abbrev pub everywhere : Rights → ℕ → Rights
 everywhere rights mode = rights
 
 -- a register that is only read
-abbrev pub read_only : (SysId → Bool) → (Rights → ℕ → Rights) → (CoreData → ℕ → ℕ) → Row
+abbrev pub read_only : (SysId → Bool) → (Rights → ℕ → Rights) → (CoreData → Moment → ℕ) → Row
 read_only number at value =
     record {
       number = number;
       rights = at Read;
-      read = λ core now. read.Value (value core now);
-      after = λ core now value. core;
-      answer = write.Undefined;
+      read = λ core moment. read.Value (value core moment);
+      after = λ core moment value. core;
+      answer = λ value. write.Undefined;
     }
 
 -- a register that is read and written
 abbrev pub read_write :
-    (SysId → Bool) → (Rights → ℕ → Rights) → (CoreData → ℕ → ℕ) → (CoreData → ℕ → ℕ → CoreData) → Row
+    (SysId → Bool) → (Rights → ℕ → Rights) → (CoreData → Moment → ℕ) → (CoreData → Moment → ℕ → CoreData) → Row
 read_write number at value after =
     record {
       number = number;
       rights = at ReadWrite;
-      read = λ core now. read.Value (value core now);
+      read = λ core moment. read.Value (value core moment);
       after = after;
-      answer = write.Done;
+      answer = λ value. write.Done;
     }
 
 -- a register that is kept, and has no other effect here
 abbrev pub kept : (SysId → Bool) → (Rights → ℕ → Rights) → (SysRegs → ℕ) → (SysRegs → ℕ → SysRegs) → Row
 kept number at value after =
-    read_write number at (λ core now. value core.sys) (λ core now value. record core { sys = after core.sys value })
+    read_write number at (λ core moment. value core.sys) (λ core moment value. record core { sys = after core.sys value })
 
 -- a register that is only written, and whose write has this answer and leaves the core
-abbrev pub write_only : (SysId → Bool) → (Rights → ℕ → Rights) → SysWrite → Row
+abbrev pub write_only : (SysId → Bool) → (Rights → ℕ → Rights) → (ℕ → SysWrite) → Row
 write_only number at answer =
     record {
       number = number;
       rights = at Write;
-      read = λ core now. read.Undefined;
-      after = λ core now value. core;
+      read = λ core moment. read.Undefined;
+      after = λ core moment value. core;
       answer = answer;
-    }
-
--- a register that is only read, and whose meaning is the interrupt interface's
-abbrev pub read_unbuilt : (SysId → Bool) → (Rights → ℕ → Rights) → Row
-read_unbuilt number at =
-    record {
-      number = number;
-      rights = at Read;
-      read = λ core now. read.Unbuilt;
-      after = λ core now value. core;
-      answer = write.Undefined;
     }

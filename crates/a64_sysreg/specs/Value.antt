@@ -1,11 +1,13 @@
 -- Values of system registers that aren't just kept.
-use Rattle.std.specs.Prelude.{ℕ, ◌+◌, ◌-◌, ◌*◌, ◌%◌, ◌^◌, Bool, ◌==◌, if◌then◌else◌}
+use Rattle.std.specs.Prelude.{ℕ, ◌+◌, ◌-◌, ◌*◌, ◌%◌, ◌^◌, Bool, ◌==◌, if◌then◌else◌, unwrap_or}
 use Rattle.bao_types.specs.Bits.{field}
 use Rattle.bao_types.specs.declared.interface.TimerRegs.{TimerRegs}
 use Rattle.a64_state.specs.Core.{CoreData}
 use Rattle.a64_state.specs.Mode.{with_mode}
 use Rattle.a64_state.specs.declared.mode.Mode.TheVariants.{El1t, El1h}
 use Rattle.generic_timer.specs.Timer.{meets_condition}
+use Rattle.vgic_iface.specs.Interface.{no_interrupt}
+use Rattle.a64_sysreg.specs.declared.moment.Moment.{Moment}
 
 -- the bits from `low` to `high` of a value, at their places
 abbrev pub bits : ℕ → ℕ → ℕ → ℕ
@@ -38,3 +40,7 @@ compare_value now value = (now + signed_word value) % 2 ^ 64
 -- CNTV_CTL_EL0: ENABLE and IMASK are kept, and bit 2, ISTATUS, shows the condition
 abbrev pub timer_control : TimerRegs → ℕ → ℕ
 timer_control timer now = timer.ctl + (if meets_condition timer now then 2 ^ 2 else 0)
+
+-- the number of the interrupt that the core may take, as the interface shows it
+abbrev pub shown : Moment → ℕ
+shown moment = unwrap_or moment.signal no_interrupt

@@ -1,15 +1,17 @@
 ghost use Rattle.std.specs.Prelude.{◌≡◌};
 ghost use Rattle.a64_sysreg.specs.Table.{row};
+ghost use Rattle.a64_sysreg.specs.Value.{shown as shown_at};
 
-use crate::{Register, SysRead};
+use crate::{Moment, Register, SysRead};
 use a64_state::{Core, pstate};
 use generic_timer::status;
 use pmsa_regs::{read_base, read_limit, select};
+use vgic_iface::{NO_INTERRUPT, running};
 
 /// What a read of a register gives, as far as it may be read.
 #[tactic(auto, unfolding(crate::specs::Table::row))]
-pub(crate) fn read(core: &Core, now: u64, register: Register) -> SysRead
-    ensures { result ≡ (row register).read core.now now }
+pub(crate) fn read(core: &Core, moment: Moment, register: Register) -> SysRead
+    ensures { result ≡ (row register).read core.now moment }
 {
     SysRead::Value(match register {
         Register::Midr | Register::Identification | Register::Ctr => 0,
@@ -41,11 +43,19 @@ pub(crate) fn read(core: &Core, now: u64, register: Register) -> SysRead
         Register::TpidrEl0 => core.sys.tpidr_el0,
         Register::TpidrroEl0 => core.sys.tpidrro_el0,
         Register::Cntfrq => 100_000_000,
-        Register::Cntvct => now,
-        Register::CntvTval => core.timer.cval.wrapping_sub(now) % (1 << 32),
-        Register::CntvCtl => core.timer.ctl + 4 * u64::from(status(&core.timer, now)),
+        Register::Cntvct => moment.count,
+        Register::CntvTval => core.timer.cval.wrapping_sub(moment.count) % (1 << 32),
+        Register::CntvCtl => core.timer.ctl + 4 * u64::from(status(&core.timer, moment.count)),
         Register::CntvCval => core.timer.cval,
+        Register::IccRpr => u64::from(running(&core.iface)),
+        Register::IccIar1 | Register::IccHppir1 => shown(moment),
         Register::IccSgi1r | Register::IccEoir1 => return SysRead::Undefined,
-        Register::IccRpr | Register::IccIar1 | Register::IccHppir1 => return SysRead::Unbuilt,
     })
+}
+
+/// The number of the interrupt that the core may take, as the interface shows it.
+fn shown(moment: Moment) -> u64
+    ensures { result ≡ shown_at moment }
+{
+    u64::from(moment.signal.unwrap_or(NO_INTERRUPT))
 }

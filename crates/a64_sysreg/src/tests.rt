@@ -1,10 +1,13 @@
-use crate::{SysRead, SysWrite, is_unbuilt, may_read, may_write, read_sys, write_sys};
+use crate::{Moment, SysRead, SysWrite, acknowledges, may_read, read_sys, write_answer, write_sys};
 use a64_state::{Core, Mode};
 use bao_types::SysId;
 use std::process::Abort;
 
-/// The count at each access.
-const NOW: u64 = 150;
+/// The count at each access, and the interrupt that the core may take.
+const NOW: Moment = Moment {
+    count: 150,
+    signal: Some(41),
+};
 
 const ONES: u64 = 0xFFFF_FFFF_FFFF_FFFF;
 
@@ -48,11 +51,11 @@ static REGISTERS: [Row; 43] = [
     ("PRLAR_EL1",        [3, 0,  6,  8, 1], (Value(0),           DONE,     Value(0xFFFF_FFFF_FFDF)),      NONE),
     ("MAIR_EL1",         [3, 0, 10,  2, 0], (Value(0),           DONE,     Value(ONES)),                  NONE),
     ("VBAR_EL1",         [3, 0, 12,  0, 0], (Value(0),           DONE,     Value(0xFFFF_FFFF_FFFF_F800)), NONE),
-    ("ICC_RPR_EL1",      [3, 0, 12, 11, 3], (SysRead::Unbuilt,   NO_WRITE, SysRead::Unbuilt),             NONE),
+    ("ICC_RPR_EL1",      [3, 0, 12, 11, 3], (Value(0x18),        NO_WRITE, Value(0x18)),                  NONE),
     ("ICC_SGI1R_EL1",    [3, 0, 12, 11, 5], (NO_READ, SysWrite::TrapEl2,   NO_READ),                      NONE),
-    ("ICC_IAR1_EL1",     [3, 0, 12, 12, 0], (SysRead::Unbuilt,   NO_WRITE, SysRead::Unbuilt),             NONE),
-    ("ICC_EOIR1_EL1",    [3, 0, 12, 12, 1], (NO_READ, SysWrite::Unbuilt,   NO_READ),                      NONE),
-    ("ICC_HPPIR1_EL1",   [3, 0, 12, 12, 2], (SysRead::Unbuilt,   NO_WRITE, SysRead::Unbuilt),             NONE),
+    ("ICC_IAR1_EL1",     [3, 0, 12, 12, 0], (Value(41),          NO_WRITE, Value(41)),                    NONE),
+    ("ICC_EOIR1_EL1",    [3, 0, 12, 12, 1], (NO_READ,            DONE,     NO_READ),                      NONE),
+    ("ICC_HPPIR1_EL1",   [3, 0, 12, 12, 2], (Value(41),          NO_WRITE, Value(41)),                    NONE),
     ("ICC_BPR1_EL1",     [3, 0, 12, 12, 3], (Value(0),           DONE,     Value(0)),                     NONE),
     ("ICC_CTLR_EL1",     [3, 0, 12, 12, 4], (Value(0),           DONE,     Value(0)),                     NONE),
     ("ICC_SRE_EL1",      [3, 0, 12, 12, 5], (Value(7),           DONE,     Value(7)),                     NONE),
@@ -130,6 +133,7 @@ fn core_in(mode: Mode) -> Core {
     let mut core = Core::reset(3);
     core.set_flags(0b1010);
     core.set_daif(0b0101);
+    core.iface.active = 1 << 3 | 1 << 5;
     core.set_mode(mode);
     core.sp0 = 0x22;
     core.sp1 = 0x33;
@@ -147,33 +151,72 @@ fn sys_id(number: [u8; 5]) -> SysId {
     }
 }
 
-/// Reads a register, writes all ones, and reads it back; and asks before whether that may be done.
+/// Reads a register, writes all ones, and reads it back; and asks before what that comes to.
 fn check_answers(rt: &impl Abort, shows: &str, mode: Mode, number: [u8; 5], wanted: Answers) {
     let id = sys_id(number);
     let mut core = core_in(mode);
-    let may = (may_read(&core, id), may_write(&core, id));
-    let first = read_sys(&mut core, NOW, id);
+    let before = (may_read(&core, id), write_answer(&core, id, ONES));
+    let first = read_sys(&core, NOW, id);
     let written = write_sys(&mut core, NOW, id, ONES);
-    let back = read_sys(&mut core, NOW, id);
-    let may_wanted = (wanted.0 != NO_READ, wanted.1 != NO_WRITE);
+    let back = read_sys(&core, NOW, id);
     assert_eq!(rt;
-        ((first, written, back), may),
-        (wanted, may_wanted),
+        ((first, written, back), before),
+        (wanted, (wanted.0 != NO_READ, wanted.1)),
         "{shows}"
     );
 }
 
-/// The registers that aren't built yet are those whose names say so.
+/// ICC_IAR1_EL1 alone takes the interrupt that it gives.
 #[test]
-fn unbuilt_registers(rt: HostRuntime) {
+fn acknowledging_register(rt: HostRuntime) {
     for (name, number, _, _) in REGISTERS.as_slice() {
-        check_unbuilt(&rt, name, *number);
+        check_acknowledges(&rt, name, *number);
     }
 }
 
-fn check_unbuilt(rt: &impl Abort, name: &str, number: [u8; 5]) {
-    let wanted = name.starts_with("ICC_") || name.starts_with("CNTV");
-    assert_eq!(rt; is_unbuilt(sys_id(number)), wanted, "{name}");
+fn check_acknowledges(rt: &impl Abort, name: &str, number: [u8; 5]) {
+    assert_eq!(rt; acknowledges(sys_id(number)), name == "ICC_IAR1_EL1", "{name}");
+}
+
+/// What is written to ICC_EOIR1_EL1 at EL1, and what comes of it.
+#[rattlefmt::skip]
+static ENDS: [(&str, u64, SysWrite); 5] = [
+    ("the first id",            0,        SysWrite::End(0)),
+    ("the timer's",             27,       SysWrite::End(27)),
+    ("the last id",             95,       SysWrite::End(95)),
+    ("no id",                   96,       DONE),
+    ("an id in the low bits",   1 << 32,  DONE),
+];
+
+#[test]
+fn ends_of_interrupts(rt: HostRuntime) {
+    for (shows, value, wanted) in ENDS.as_slice() {
+        check_end(&rt, shows, *value, *wanted);
+    }
+}
+
+/// The core stays, whatever ends.
+fn check_end(rt: &impl Abort, shows: &str, value: u64, wanted: SysWrite) {
+    let mut core = core_in(Mode::El1h);
+    let before = core;
+    let answer = write_sys(&mut core, NOW, sys_id([3, 0, 12, 12, 1]), value);
+    assert_eq!(rt; (answer, core), (wanted, before), "{shows}");
+}
+
+/// Where no interrupt may be taken and none is active.
+#[test]
+fn no_interrupt_shown(rt: HostRuntime) {
+    let quiet = Moment {
+        signal: None,
+        ..NOW
+    };
+    let core = Core::reset(0);
+    let seen = [
+        read_sys(&core, quiet, sys_id([3, 0, 12, 12, 0])),
+        read_sys(&core, quiet, sys_id([3, 0, 12, 12, 2])),
+        read_sys(&core, quiet, sys_id([3, 0, 12, 11, 3])),
+    ];
+    assert_eq!(rt; seen, [Value(1023), Value(1023), Value(0xFF)]);
 }
 
 /// What is written at EL1, and what is read back.
@@ -203,7 +246,7 @@ fn check_written(rt: &impl Abort, shows: &str, number: [u8; 5], value: u64, back
     let mut core = core_in(Mode::El1h);
     let seen = (
         write_sys(&mut core, NOW, id, value),
-        read_sys(&mut core, NOW, id),
+        read_sys(&core, NOW, id),
     );
     assert_eq!(rt; seen, (DONE, Value(back)), "{shows}");
 }
@@ -225,13 +268,14 @@ fn timer_values(rt: HostRuntime) {
     }
 }
 
-fn check_timer_value(rt: &impl Abort, shows: &str, value: u64, now: u64, compare: u64) {
+fn check_timer_value(rt: &impl Abort, shows: &str, value: u64, count: u64, compare: u64) {
+    let now = Moment { count, ..NOW };
     let mut core = core_in(Mode::El1h);
     let written = write_sys(&mut core, now, sys_id([3, 3, 14, 3, 0]), value);
     let seen = (
         written,
-        read_sys(&mut core, now, sys_id([3, 3, 14, 3, 2])),
-        read_sys(&mut core, now, sys_id([3, 3, 14, 3, 0])),
+        read_sys(&core, now, sys_id([3, 3, 14, 3, 2])),
+        read_sys(&core, now, sys_id([3, 3, 14, 3, 0])),
     );
     assert_eq!(rt; seen, (DONE, Value(compare), Value(value)), "{shows}");
 }

@@ -3,14 +3,17 @@ ghost use Rattle.a64_state.specs.Mode.{with_mode};
 ghost use Rattle.a64_sysreg.specs.Value.{compare_value as compare_value_of};
 ghost use Rattle.a64_sysreg.specs.Table.{row};
 
-use crate::{Register, SysWrite};
+use crate::{Moment, Register, SysWrite};
 use a64_state::{Core, Mode};
 use pmsa_regs::{write_base, write_limit, write_select};
 
+/// The ids of a virtual core's interrupts lie below this.
+const ID_END: u64 = 96;
+
 /// Writes a register, as far as it may be written.
 #[tactic(auto, unfolding(crate::specs::Table::row))]
-pub(crate) fn write(core: &mut Core, now: u64, register: Register, value: u64)
-    ensures { core.new ≡ (row register).after core.old now value }
+pub(crate) fn write(core: &mut Core, moment: Moment, register: Register, value: u64)
+    ensures { core.new ≡ (row register).after core.old moment value }
 {
     match register {
         Register::Sctlr => core.sys.sctlr = value,
@@ -35,7 +38,7 @@ pub(crate) fn write(core: &mut Core, now: u64, register: Register, value: u64)
         Register::Daif => core.set_daif((value / (1 << 6) % 16) as u32),
         Register::TpidrEl0 => core.sys.tpidr_el0 = value,
         Register::TpidrroEl0 => core.sys.tpidrro_el0 = value,
-        Register::CntvTval => core.timer.cval = compare_value(now, value),
+        Register::CntvTval => core.timer.cval = compare_value(moment.count, value),
         Register::CntvCtl => core.timer.ctl = value % 4,
         Register::CntvCval => core.timer.cval = value,
         // These ignore a write.
@@ -57,21 +60,33 @@ pub(crate) fn write(core: &mut Core, now: u64, register: Register, value: u64)
     }
 }
 
-/// What a write of a register answers, as far as it may be written.
+/// What a write of a value to a register answers, as far as it may be written.
 #[tactic(auto, unfolding(crate::specs::Table::row))]
 #[rattlefmt::skip]
-pub(crate) fn answer(register: Register) -> SysWrite
-    ensures { result ≡ (row register).answer }
+pub(crate) fn answer(register: Register, value: u64) -> SysWrite
+    ensures { result ≡ (row register).answer value }
 {
     use crate::Register::*;
     match register {
         IccSgi1r => SysWrite::TrapEl2,
-        IccEoir1 => SysWrite::Unbuilt,
+        IccEoir1 => end(value),
         Midr | Mpuir | Mpidr | Identification | CurrentEl | IccRpr | IccIar1 | IccHppir1 | Ctr | Cntfrq | Cntvct =>
             SysWrite::Undefined,
         Sctlr | Cpacr | Spsr | Elr | SpEl0 | SpSel | IccPmr | Esr | Far | Prselr | Prbar | Prlar | Mair | Vbar | IccBpr1
         | IccCtlr | IccSre | IccIgrpen1 | Contextidr | Tpidr | Cntkctl | Nzcv | Daif | TpidrEl0 | TpidrroEl0 | CntvTval
         | CntvCtl | CntvCval => SysWrite::Done,
+    }
+}
+
+/// What a write of ICC_EOIR1_EL1 answers: no interrupt has a number of 96 or more.
+#[tactic(auto, unfolding(crate::specs::Table::row))]
+fn end(value: u64) -> SysWrite
+    ensures { result ≡ (row Register.IccEoir1).answer value }
+{
+    if value < ID_END {
+        SysWrite::End(value as u16)
+    } else {
+        SysWrite::Done
     }
 }
 

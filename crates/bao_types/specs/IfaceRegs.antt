@@ -1,9 +1,7 @@
 -- What a contract sees of an `IfaceRegs`.
-use Rattle.std.specs.Prelude.{ℕ, Bool, List}
-use Rattle.bao_types.specs.ListReg.{ListRegData}
+use Rattle.std.specs.Prelude.{ℕ, Bool}
 
 pub record IfaceData : Type 0 where
   pub pmr : ℕ
   pub group : Bool
   pub active : ℕ
-  pub lists : List ListRegData

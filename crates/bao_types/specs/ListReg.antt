@@ -1,5 +1,5 @@
 -- What a contract sees of a `ListReg`.
-use Rattle.std.specs.Prelude.{ℕ, Bool, not, ◌&&◌}
+use Rattle.std.specs.Prelude.{ℕ, Bool, false, not, ◌&&◌, List, replicate}
 
 pub record ListRegData : Type 0 where
   pub id : ℕ
@@ -10,3 +10,10 @@ pub record ListRegData : Type 0 where
 -- the interrupt is neither pending nor active
 abbrev pub is_free : ListRegData → Bool
 is_free list = not list.pending && not list.active
+
+abbrev pub free_register : ListRegData
+free_register = record { id = 0; priority = 0; pending = false; active = false }
+
+-- the list registers of a core after a reset
+abbrev pub free_registers : List ListRegData
+free_registers = replicate 4 free_register

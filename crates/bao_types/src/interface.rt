@@ -8,8 +8,8 @@ pub struct TimerRegs {
     pub level: bool,
 }
 
-/// A list register of the virtual interrupt interface. It is free where the interrupt is neither pending nor
-/// active.
+/// A list register of the virtual interrupt interface (GICv3, ICH_LR<n>_EL2). It is free where the interrupt is neither
+/// pending nor active. A core has four, which EL2 alone reaches, so they aren't among the registers of a guest.
 #[derive(Clone, Copy, Debug, PartialEq, Eq)]
 pub struct ListReg {
     /// The interrupt's number, below 96.
@@ -22,7 +22,19 @@ pub struct ListReg {
 
 impl ListReg {
     ghost use Rattle.std.specs.Prelude.{◌≡◌};
-    ghost use Rattle.bao_types.specs.ListReg.{is_free};
+    ghost use Rattle.bao_types.specs.ListReg.{free_register, is_free};
+
+    /// A register in which no interrupt stands, as all are after a reset.
+    pub fn free() -> ListReg
+        ensures { result ≡ free_register }
+    {
+        ListReg {
+            id: 0,
+            priority: 0,
+            pending: false,
+            active: false,
+        }
+    }
 
     /// Whether the interrupt is neither pending nor active, so that the register can take another.
     pub fn is_free(&self) -> bool
@@ -45,8 +57,8 @@ impl Model for ListReg {
     ghost inverse = { λ d. record { id = d.id; priority = d.priority; pending = d.pending; active = d.active } };
 }
 
-/// The virtual interrupt interface of a core: ICC_PMR_EL1, ICC_IGRPEN1_EL1, the active priorities and the list
-/// registers.
+/// The virtual interrupt interface of a core as its guest reaches it: ICC_PMR_EL1, ICC_IGRPEN1_EL1 and the active
+/// priorities.
 #[derive(Clone, Copy, Debug, PartialEq, Eq)]
 pub struct IfaceRegs {
     /// The priority mask: bits 7 to 3 alone.
@@ -55,7 +67,6 @@ pub struct IfaceRegs {
     pub group: bool,
     /// Bit p / 8 stands for the active priority p.
     pub active: u32,
-    pub lists: [ListReg; 4],
 }
 
 impl Model for IfaceRegs {
@@ -64,9 +75,9 @@ impl Model for IfaceRegs {
 
     ghost Value = { IfaceData };
 
-    ghost view = { λ r. record { pmr = r.pmr; group = r.group; active = r.active; lists = r.lists } };
+    ghost view = { λ r. record { pmr = r.pmr; group = r.group; active = r.active } };
 
     ghost invariant = { λ r. r.pmr % 8 ≡ 0 };
 
-    ghost inverse = { λ d. record { pmr = d.pmr; group = d.group; active = d.active; lists = d.lists } };
+    ghost inverse = { λ d. record { pmr = d.pmr; group = d.group; active = d.active } };
 }

@@ -1,8 +1,9 @@
--- Nothing is claimed by two VMs.
+-- Nothing is claimed twice.
 use Rattle.std.proofs.Common.{◌≡◌, ℕ, ◌<◌, ◌==◌, Bool, true, false, ◌⊎◌, inl, inr, ◌||◌, List, [], ◌∷◌, map, slice_get, Some, refl, sym, ap, ◌∙◌, arith, ◌+◌}
 use Rattle.std.specs.List.{list_any}
 use Rattle.std.proofs.lemmas.Bool.{cases_order, eq-eqb, eqb-true}
 use Rattle.bao_config.specs.declared.config.Dev.{Dev}
+use Rattle.bao_config.specs.declared.config.PortPlace.{PortPlace}
 use Rattle.bao_config.specs.Data.{ConfigData, VmData}
 use Rattle.bao_wellformed.specs.declared.claim.Claim.{Claim}
 use Rattle.bao_wellformed.specs.declared.claim.Claimed.{Claimed}
@@ -11,6 +12,7 @@ use Rattle.bao_wellformed.specs.Break.{pairs, indexed}
 use Rattle.bao_wellformed.specs.Claims.{claims, claims_of_vm, numbers_of}
 use Rattle.bao_wellformed.specs.Map.{has_core}
 use Rattle.bao_wellformed.specs.Rules.{are_one, claimed_twice}
+use Rattle.bao_wellformed.specs.WellFormed.{IsWellFormed}
 use Rattle.bao_wellformed.specs.Laws.{CoresApart, CoresOwned, IsVm, PortsApart}
 use Rattle.bao_wellformed.proofs.Empty.{any_got, flat_got, indexed_got, is_pair, map_empty, map_got, none_passes, only_position}
 use Rattle.bao_wellformed.proofs.Kept.{kept}
@@ -38,19 +40,19 @@ module _ (cfg : ConfigData) (claimed : Claimed) (rule : ℕ) (nothing : claimed_
       let x : true ≡ false = sym yes ∙ no in cc
 
   pub once : (v w : ℕ) (vm other : VmData) (i j number : ℕ) → IsVm cfg v vm → IsVm cfg w other
-      → slice_get (numbers_of claimed vm) i ≡ Some number → slice_get (numbers_of claimed other) j ≡ Some number → v ≡ w
+      → slice_get (numbers_of claimed vm) i ≡ Some number → slice_get (numbers_of claimed other) j ≡ Some number → (v ≡ w) × (i ≡ j)
   once v w vm other i j number one two has has_too =
       by_order (claim_got cfg claimed v vm i number one has) (claim_got cfg claimed w other j number two has_too)
     where
       by_places : (p q : ℕ) → slice_get (claims claimed cfg) p ≡ Some (claim cfg claimed v i number) → slice_get (claims claimed cfg) q ≡ Some (claim cfg claimed w j number)
-          → (p ≡ q) ⊎ ((p < q) ⊎ (q < p)) → v ≡ w
+          → (p ≡ q) ⊎ ((p < q) ⊎ (q < p)) → (v ≡ w) × (i ≡ j)
       by_places p q first second (inl same) =
           let e : Some (claim cfg claimed v i number) ≡ Some (claim cfg claimed w j number) = sym first ∙ ap (slice_get (claims claimed cfg)) same ∙ second in
-          let c : claim cfg claimed v i number ≡ claim cfg claimed w j number = cc in ap (λ (x : Claim). x.vm) c
+          let c : claim cfg claimed v i number ≡ claim cfg claimed w j number = cc in (ap (λ (x : Claim). x.vm) c, ap (λ (x : Claim). x.item) c)
       by_places p q first second (inr (inl less)) = absurd (not_two p q (claim cfg claimed v i number) (claim cfg claimed w j number) first second less refl)
       by_places p q first second (inr (inr more)) = absurd (not_two q p (claim cfg claimed w j number) (claim cfg claimed v i number) second first more refl)
 
-      by_order : (p : ℕ) × (slice_get (claims claimed cfg) p ≡ Some (claim cfg claimed v i number)) → (q : ℕ) × (slice_get (claims claimed cfg) q ≡ Some (claim cfg claimed w j number)) → v ≡ w
+      by_order : (p : ℕ) × (slice_get (claims claimed cfg) p ≡ Some (claim cfg claimed v i number)) → (q : ℕ) × (slice_get (claims claimed cfg) q ≡ Some (claim cfg claimed w j number)) → (v ≡ w) × (i ≡ j)
       by_order (p, first) (q, second) = by_places p q first second (cases_order p q)
 
 -- a number that passes the test for one is at a place
@@ -61,7 +63,13 @@ number_got numbers number h =
 pub cores_apart : CoresApart
 cores_apart cfg v w vm other core well_formed one two has has_too =
     let i = number_got vm.cores core has in let j = number_got other.cores core has_too in
-    once cfg Cores 11 (kept cfg well_formed).r11 v w vm other i.0 j.0 core one two i.1 j.1
+    (once cfg Cores 11 (kept cfg well_formed).r11 v w vm other i.0 j.0 core one two i.1 j.1).0
+
+-- a core stands once in its VM's list
+pub cores_once : (cfg : ConfigData) (v : ℕ) (vm : VmData) (i j core : ℕ) → IsWellFormed cfg → IsVm cfg v vm
+    → slice_get vm.cores i ≡ Some core → slice_get vm.cores j ≡ Some core → i ≡ j
+cores_once cfg v vm i j core well_formed is one two =
+    (once cfg Cores 11 (kept cfg well_formed).r11 v v vm vm i j core is is one two).1
 
 -- a port that a VM has is among the numbers of its devs
 port_listed :
@@ -73,9 +81,47 @@ pub ports_apart : PortsApart
 ports_apart cfg v w vm other port well_formed one two has has_too =
     let i = number_got (numbers_of Ports vm) port (sym (port_listed vm.devs port) ∙ has) in
     let j = number_got (numbers_of Ports other) port (sym (port_listed other.devs port) ∙ has_too) in
-    once cfg Ports 15 (kept cfg well_formed).r15 v w vm other i.0 j.0 port one two i.1 j.1
+    (once cfg Ports 15 (kept cfg well_formed).r15 v w vm other i.0 j.0 port one two i.1 j.1).0
 
 pub cores_owned : CoresOwned
 cores_owned cfg v vm core well_formed is has =
     only_position (has_core core) cfg.vms 0 v vm is has (λ w other there has_too. cores_apart cfg w v other vm core well_formed there is has_too has)
     ∙ (let place : 0 + v ≡ v = omega arith in ap Some place)
+
+-- two ports of the platform that have one id, or one interrupt number, are one
+module _ (cfg : ConfigData) (well_formed : IsWellFormed cfg) where
+  not_alike : (p q : ℕ) (one other : PortPlace) → slice_get cfg.platform.ports p ≡ Some one → slice_get cfg.platform.ports q ≡ Some other
+      → p < q → (one.id == other.id || one.spi == other.spi) ≡ true → ⊥
+  not_alike p q one other first second less same =
+      let pair = is_pair cfg.platform.ports p q one other first second less in
+      let test : PortPlace × PortPlace → Bool = λ (one, other). one.id == other.id || one.spi == other.spi in
+      let no = none_passes test (pairs cfg.platform.ports) (map_empty _ _ (kept cfg well_formed).r4) pair.place (one, other) pair.got in
+      let x : true ≡ false = sym same ∙ no in cc
+
+  alike_once : (p q : ℕ) (one other : PortPlace) → slice_get cfg.platform.ports p ≡ Some one → slice_get cfg.platform.ports q ≡ Some other
+      → (one.id == other.id || one.spi == other.spi) ≡ true → (other.id == one.id || other.spi == one.spi) ≡ true → p ≡ q
+  alike_once p q one other first second same back = by_places (cases_order p q)
+    where
+      by_places : (p ≡ q) ⊎ ((p < q) ⊎ (q < p)) → p ≡ q
+      by_places (inl e) = e
+      by_places (inr (inl less)) = absurd (not_alike p q one other first second less same)
+      by_places (inr (inr more)) = absurd (not_alike q p other one second first more back)
+
+  pub ids_once : (p q : ℕ) (one other : PortPlace) → slice_get cfg.platform.ports p ≡ Some one → slice_get cfg.platform.ports q ≡ Some other
+      → one.id ≡ other.id → p ≡ q
+  ids_once p q one other first second same =
+      alike_once p q one other first second (by_id (one.id == other.id) (one.spi == other.spi) (eq-eqb one.id other.id same))
+      (by_id (other.id == one.id) (other.spi == one.spi) (eq-eqb other.id one.id (sym same)))
+    where
+      by_id : (b c : Bool) → b ≡ true → (b || c) ≡ true
+      by_id b c e = ap (λ x. x || c) e
+
+  pub spis_once : (p q : ℕ) (one other : PortPlace) → slice_get cfg.platform.ports p ≡ Some one → slice_get cfg.platform.ports q ≡ Some other
+      → one.spi ≡ other.spi → p ≡ q
+  spis_once p q one other first second same =
+      alike_once p q one other first second (by_spi (one.id == other.id) (one.spi == other.spi) (eq-eqb one.spi other.spi same))
+      (by_spi (other.id == one.id) (other.spi == one.spi) (eq-eqb other.spi one.spi (sym same)))
+    where
+      by_spi : (b c : Bool) → c ≡ true → (b || c) ≡ true
+      by_spi true c e = refl
+      by_spi false c e = e

@@ -13,20 +13,23 @@ use Rattle.a64_state.specs.Pstate.{illegal_state}
 use Rattle.a64_decode.specs.Table.{decoded}
 use Rattle.a64_decode.specs.declared.instr.Instr.{Instr}
 use Rattle.a64_address.specs.declared.shape.MemShape.{MemShape}
+use Rattle.exceptions.specs.declared.entry.Cause.TheVariants.{Irq}
+use Rattle.exceptions.specs.Entry.{entered}
+use Rattle.a64_sysreg.specs.declared.moment.Moment.{Moment}
 use Rattle.exceptions.specs.declared.class.Class.TheVariants.{IllegalState, PcAlignment, SpAlignment}
 use Rattle.a64_execute.specs.declared.need.Need.{Need}
 use Rattle.a64_execute.specs.declared.need.Need.TheVariants as need
 use Rattle.a64_execute.specs.Want.{wanted, access_asked, bytes_of}
 use Rattle.a64_execute.proofs.Shapes.{asked_width}
 use Rattle.ports.specs.PortState.{PortState}
-use Rattle.ports.specs.Registers.{after_read, after_write, value_read}
+use Rattle.ports.specs.Registers.{after_read, after_write, line_of_write, value_read}
 use Rattle.board.specs.declared.judged.Fault.{Fault}
 use Rattle.board.specs.declared.judged.Judged.{Judged}
 use Rattle.board.specs.declared.judged.Judged.TheVariants.{Memory, Port, Refused}
-use Rattle.board.specs.Ports.{Places, PortStates, PortByte, PortAccess, ReadPort, WritePort, accessed, all_accessed, address_from, bytes_from, element_read, element_stored, element_value, element_written, elements_read, elements_stored, elements_value, elements_written, is_port, number_at, stores_from, with_port}
+use Rattle.board.specs.Ports.{Places, PortStates, PortByte, PortAccess, ReadPort, WritePort, accessed, all_accessed, address_from, bytes_from, element_read, element_stored, element_value, element_written, elements_read, elements_stored, elements_value, elements_written, is_port, number_at, raises_line, stores_from, with_port}
 use Rattle.board.specs.Stage.{Stage, is_allowed, both}
 use Rattle.board.specs.Judge.{all_from, fault_or, first_fault, fault_else, is_free, Reach, reach_of}
-use Rattle.board.specs.Attempt.{Effect, ran, unbuilt, raised, fetch_aborted, data_aborted, bare_syndrome, alignment_code, code_of, checks_alignment, is_misaligned, is_sp_misaligned, misaligned, at_port, checked, load_effect, store_effect, effect_of, word_effect, attempt}
+use Rattle.board.specs.Attempt.{Effect, ran, raised, fetch_aborted, data_aborted, bare_syndrome, alignment_code, code_of, checks_alignment, is_misaligned, is_sp_misaligned, misaligned, at_port, checked, load_effect, store_effect, effect_of, word_effect, fetch_effect, attempt, takes_irq, step_effect}
 use Rattle.board.specs.Machine.{with_byte, written}
 use Rattle.board.specs.Reached.{DisturbsNothingElse, AreAlike, ArePortsAlike, LeavesTheRest, ObservesNothingElse, ReachesPort}
 
@@ -231,7 +234,7 @@ module _ (stage : Stage) (places : Places) where
       (all_written width n (width * n) (address_from at width) (value / 256 ^ width) some refl
       (later_bytes (may Write) width (width * n) total at more all))
 
-module _ (one two : Stage) (places : Places) (states : PortStates) (bytes : ℕ → ℕ) (core : CoreData) (now : ℕ) where
+module _ (one two : Stage) (places : Places) (states : PortStates) (bytes : ℕ → ℕ) (core : CoreData) (moment : Moment) where
   -- an effect stores where its core may write, and touches ports of which it may read or write a byte
   pub record KeepsToItself (effect : Effect) : Type 0 where
     pub stored : AllStored (λ at. is_allowed (both one two Write at)) effect.stored
@@ -262,9 +265,6 @@ module _ (one two : Stage) (places : Places) (states : PortStates) (bytes : ℕ 
   by_fetch true verdict at = nothing (fetch_aborted core (record { stage2 = true; verdict = verdict; at = at })) refl refl
   by_fetch false verdict at = nothing (fetch_aborted core (record { stage2 = false; verdict = verdict; at = at })) refl refl
 
-  by_unbuilt : KeepsToItself (unbuilt core)
-  by_unbuilt = nothing (unbuilt core) refl refl
-
   by_port : (instr : Instr) (shape : MemShape) (aligned : Effect) → KeepsToItself aligned
       → KeepsToItself (at_port core instr shape aligned)
   by_port instr shape aligned keeps =
@@ -281,9 +281,9 @@ module _ (one two : Stage) (places : Places) (states : PortStates) (bytes : ℕ 
 
   by_load : (instr : Instr) (shape : MemShape) → 1 ≤ shape.width → (fault : Option Fault) (free : Bool) (got other : ℕ)
       → first_fault one two Read shape.at (bytes_of shape) ≡ fault
-      → KeepsToItself (load_effect places core now instr shape (fault_else fault (if free then Memory got else Port other)))
+      → KeepsToItself (load_effect places core moment instr shape (fault_else fault (if free then Memory got else Port other)))
   unfolding AllStored
-  by_load instr shape some None true got other none = nothing (load_effect places core now instr shape (Memory got)) refl refl
+  by_load instr shape some None true got other none = nothing (load_effect places core moment instr shape (Memory got)) refl refl
   by_load instr shape some None false got other none =
       by_port instr shape _
       (record {
@@ -295,7 +295,7 @@ module _ (one two : Stage) (places : Places) (states : PortStates) (bytes : ℕ 
 
   by_store : (instr : Instr) (shape : MemShape) (value : ℕ) → 1 ≤ shape.width → (fault : Option Fault) (free : Bool)
       → first_fault one two Write shape.at (bytes_of shape) ≡ fault
-      → KeepsToItself (store_effect places core now instr shape value (fault_else fault (if free then Memory 0 else Port 0)))
+      → KeepsToItself (store_effect places core moment instr shape value (fault_else fault (if free then Memory 0 else Port 0)))
   unfolding AllTouched
   by_store instr shape value some None true none = record {
     stored = from_place (λ at. is_allowed (both one two Write at)) shape.at (bytes_of shape) value
@@ -312,8 +312,12 @@ module _ (one two : Stage) (places : Places) (states : PortStates) (bytes : ℕ 
   by_store instr shape value some (Some fault) free is = by_data instr fault.stage2 (code_of fault.verdict) fault.at
 
   by_need : (instr : Instr) (asked : Need) → wanted core instr ≡ asked
-      → KeepsToItself (effect_of (reach_of one two places states bytes) core now instr asked)
-  by_need instr need.Done is = nothing (effect_of (reach_of one two places states bytes) core now instr need.Done) refl refl
+      → KeepsToItself (effect_of (reach_of one two places states bytes) core moment instr asked)
+  by_need instr need.Done is = nothing (effect_of (reach_of one two places states bytes) core moment instr need.Done) refl refl
+  by_need instr need.Acknowledge is =
+      nothing (effect_of (reach_of one two places states bytes) core moment instr need.Acknowledge) refl refl
+  by_need instr (need.End id) is =
+      nothing (effect_of (reach_of one two places states bytes) core moment instr (need.End id)) refl refl
   by_need instr (need.Load shape) is =
       by_checks instr shape _
       (by_load instr shape (some_bytes shape.width (asked_width core instr shape (ap access_asked is)))
@@ -325,32 +329,39 @@ module _ (one two : Stage) (places : Places) (states : PortStates) (bytes : ℕ 
       (first_fault one two Write shape.at (bytes_of shape)) (is_free places shape.at (bytes_of shape)) refl)
   by_need instr (need.Raise esr back) is = by_raised esr back None
   by_need instr (need.Leave esr behind) is =
-      nothing (effect_of (reach_of one two places states bytes) core now instr (need.Leave esr behind)) refl refl
-  by_need instr need.Unbuilt is = by_unbuilt
+      nothing (effect_of (reach_of one two places states bytes) core moment instr (need.Leave esr behind)) refl refl
 
-  by_word : (word : Judged) → KeepsToItself (word_effect (reach_of one two places states bytes) core now word)
-  by_word (Memory word) =
+  by_word : (word : ℕ) → KeepsToItself (word_effect (reach_of one two places states bytes) core moment word)
+  by_word word =
       either (illegal_state core.pstate) (raised core (bare_syndrome IllegalState) None core.pc) _
       (by_raised (bare_syndrome IllegalState) core.pc None) (by_need (decoded word) (wanted core (decoded word)) refl)
-  by_word (Port got) = by_unbuilt
-  by_word (Refused fault) = by_fetch fault.stage2 fault.verdict fault.at
+
+  by_fetched : (word : Judged) → KeepsToItself (fetch_effect (reach_of one two places states bytes) core moment word)
+  by_fetched (Memory word) = by_word word
+  by_fetched (Port word) = by_word word
+  by_fetched (Refused fault) = by_fetch fault.stage2 fault.verdict fault.at
+
+  by_attempt : KeepsToItself (attempt (reach_of one two places states bytes) core moment)
+  unfolding attempt
+  by_attempt =
+      either (core.pc % 4 == 0) _ (raised core (bare_syndrome PcAlignment) (Some core.pc) core.pc)
+      (by_fetched ((reach_of one two places states bytes).fetched core.pc)) (by_raised (bare_syndrome PcAlignment) core.pc (Some core.pc))
 
   -- so does a step
-  pub keeps_to_itself : KeepsToItself (attempt (reach_of one two places states bytes) core now)
-  unfolding attempt
+  pub keeps_to_itself : KeepsToItself (step_effect (reach_of one two places states bytes) core moment)
   keeps_to_itself =
-      either (core.pc % 4 == 0) _ (raised core (bare_syndrome PcAlignment) (Some core.pc) core.pc)
-      (by_word ((reach_of one two places states bytes).fetched core.pc)) (by_raised (bare_syndrome PcAlignment) core.pc (Some core.pc))
+      either (takes_irq core moment) (ran (entered core Irq)) (attempt (reach_of one two places states bytes) core moment)
+      (nothing (ran (entered core Irq)) refl refl) by_attempt
 
-  pub stored_by_second : AllStored (λ at. is_allowed (two Write at)) (attempt (reach_of one two places states bytes) core now).stored
+  pub stored_by_second : AllStored (λ at. is_allowed (two Write at)) (step_effect (reach_of one two places states bytes) core moment).stored
   stored_by_second =
       weaker_stored (λ at. is_allowed (both one two Write at)) (λ at. is_allowed (two Write at))
-      (allowed_by_second one two Write) (attempt (reach_of one two places states bytes) core now).stored keeps_to_itself.stored
+      (allowed_by_second one two Write) (step_effect (reach_of one two places states bytes) core moment).stored keeps_to_itself.stored
 
-  pub touched_by_second : AllTouched (ReachesPort two places) (attempt (reach_of one two places states bytes) core now).touched
+  pub touched_by_second : AllTouched (ReachesPort two places) (step_effect (reach_of one two places states bytes) core moment).touched
   touched_by_second =
       weaker_touched (ReachesPort (both one two) places) (ReachesPort two places) (port_by_second one two places)
-      (attempt (reach_of one two places states bytes) core now).touched keeps_to_itself.touched
+      (step_effect (reach_of one two places states bytes) core moment).touched keeps_to_itself.touched
 
 -- a byte that fails a test which all stored ones pass
 other_byte : (test : ℕ → Bool) (place value at : ℕ) (bytes : ℕ → ℕ) (here : Bool) → (at == place) ≡ here → IsTrue (test place)
@@ -386,17 +397,69 @@ accesses_leave Holds port not_it (WritePort touched offset width value ∷ acces
     accesses_leave Holds port not_it accesses (accessed (WritePort touched offset width value) states) all.1
     ∙ other_port Holds touched port (after_write (states touched) offset width value) states (port == touched) refl all.0 not_it
 
+-- one port is changed in two machines where it is the same
+with_alike : (touched port : ℕ) (change : PortState → PortState) (states others : PortStates) → states touched ≡ others touched
+    → states port ≡ others port
+    → with_port touched (change (states touched)) states port ≡ with_port touched (change (others touched)) others port
+with_alike touched port change states others here there = by_place (port == touched)
+  where
+    by_place : (is : Bool)
+        → (if is then change (states touched) else states port) ≡ (if is then change (others touched) else others port)
+    by_place true = ap change here
+    by_place false = there
+
+-- nor is its line raised
+no_line : (Holds : ℕ → Type 0) (rises : Bool) (touched port : ℕ) (here : Bool) → (touched == port) ≡ here → Holds touched
+    → (Holds port → ⊥) → (rest : Bool) → IsFalse rest → IsFalse (rises && here || rest)
+no_line Holds rises touched port true e holds not_it rest quiet =
+    let same : touched ≡ port = grind (arith, nat_tests) in absurd (not_it (subst Holds same holds))
+no_line Holds true touched port false e holds not_it rest quiet = quiet
+no_line Holds false touched port false e holds not_it rest quiet = quiet
+
+pub lines_leave : (Holds : ℕ → Type 0) (port : ℕ) → (Holds port → ⊥) → (accesses : List PortAccess) (states : PortStates)
+    → AllTouched Holds accesses → IsFalse (raises_line accesses states port)
+unfolding AllTouched
+lines_leave Holds port not_it [] states all = refl
+lines_leave Holds port not_it (ReadPort touched offset width ∷ accesses) states all =
+    lines_leave Holds port not_it accesses (accessed (ReadPort touched offset width) states) all.1
+lines_leave Holds port not_it (WritePort touched offset width value ∷ accesses) states all =
+    no_line Holds (line_of_write (states touched) offset width value) touched port (touched == port) refl all.0 not_it _
+    (lines_leave Holds port not_it accesses (accessed (WritePort touched offset width value) states) all.1)
+
+-- the lines that accesses raise are the same over ports that are equal where they are touched
+pub lines_alike : (Holds : ℕ → Type 0) (accesses : List PortAccess) (states others : PortStates) → AllTouched Holds accesses
+    → ((port : ℕ) → Holds port → states port ≡ others port) → (port : ℕ)
+    → raises_line accesses states port ≡ raises_line accesses others port
+unfolding AllTouched
+lines_alike Holds [] states others all same port = refl
+lines_alike Holds (ReadPort touched offset width ∷ accesses) states others all same port =
+    lines_alike Holds accesses (accessed (ReadPort touched offset width) states) (accessed (ReadPort touched offset width) others) all.1
+    (λ other holds. with_alike touched other (λ state. after_read state offset width) states others (same touched all.0) (same other holds))
+    port
+lines_alike Holds (WritePort touched offset width value ∷ accesses) states others all same port =
+    ap (λ state. line_of_write state offset width value && touched == port || raises_line accesses (accessed (WritePort touched offset width value) states) port)
+    (same touched all.0)
+    ∙ ap (λ rest. line_of_write (others touched) offset width value && touched == port || rest)
+    (lines_alike Holds accesses (accessed (WritePort touched offset width value) states)
+    (accessed (WritePort touched offset width value) others) all.1
+    (λ other holds. with_alike touched other (λ state. after_write state offset width value) states others (same touched all.0) (same other holds))
+    port)
+
 -- a step disturbs nothing else
 pub disturbs_nothing_else : DisturbsNothingElse
-disturbs_nothing_else one two places states bytes core now = record {
+disturbs_nothing_else one two places states bytes core moment = record {
   memory = λ at closed.
       stores_leave (λ byte. is_allowed (both one two Write byte)) at closed
-      (attempt (reach_of one two places states bytes) core now).stored bytes
-      (keeps_to_itself one two places states bytes core now).stored;
+      (step_effect (reach_of one two places states bytes) core moment).stored bytes
+      (keeps_to_itself one two places states bytes core moment).stored;
   ports = λ port not_it.
       accesses_leave (ReachesPort (both one two) places) port not_it
-      (attempt (reach_of one two places states bytes) core now).touched states
-      (keeps_to_itself one two places states bytes core now).touched;
+      (step_effect (reach_of one two places states bytes) core moment).touched states
+      (keeps_to_itself one two places states bytes core moment).touched;
+  lines = λ port not_it.
+      lines_leave (ReachesPort (both one two) places) port not_it
+      (step_effect (reach_of one two places states bytes) core moment).touched states
+      (keeps_to_itself one two places states bytes core moment).touched;
 }
 
 -- two memories that are equal where a stage lets its core look, and ports that are where it lets it reach them
@@ -515,5 +578,5 @@ module _ (one two : Stage) (places : Places) (states others : PortStates) (left 
 
 -- a step observes nothing else
 pub observes_nothing_else : ObservesNothingElse
-observes_nothing_else one two places states others left right core now ports alike =
-    ap (λ reach. attempt reach core now) (reach_alike one two places states others left right ports alike)
+observes_nothing_else one two places states others left right core moment ports alike =
+    ap (λ reach. step_effect reach core moment) (reach_alike one two places states others left right ports alike)

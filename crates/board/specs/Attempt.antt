@@ -1,21 +1,22 @@
--- One step of one core: PC is aligned, the fetch is judged, the state is legal, the word is decoded; and what the instruction
--- asks of memory is checked, judged byte by byte, and carried out in address order (ARM DDI 0487, "Synchronous exception
--- prioritization for exceptions taken to AArch64 state").
-use Rattle.std.specs.Prelude.{ℕ, ◌%◌, ◌==◌, ◌&&◌, ◌||◌, not, Bool, true, false, if◌then◌else◌, List, [], ◌∷◌, Option, None, Some}
+-- One step of one core: it takes an interrupt; or else PC is aligned, the fetch is judged, the state is legal, the word is
+-- decoded, and what the instruction asks of memory is checked, judged byte by byte, and carried out in address order
+-- (ARM DDI 0487, "Synchronous exception prioritization for exceptions taken to AArch64 state").
+use Rattle.std.specs.Prelude.{ℕ, ◌%◌, ◌==◌, ◌&&◌, ◌||◌, not, Bool, true, false, if◌then◌else◌, List, [], ◌∷◌, Option, None, Some, is_some}
 use Rattle.bao_types.specs.Bits.{field}
 use Rattle.bao_types.specs.declared.access.Verdict.{Verdict}
 use Rattle.bao_types.specs.declared.access.Verdict.TheVariants.{Allow, Translation, Permission}
 use Rattle.a64_state.specs.Core.{CoreData}
 use Rattle.a64_state.specs.Registers.{level, sp_of}
-use Rattle.a64_state.specs.Pstate.{illegal_state}
+use Rattle.a64_state.specs.Pstate.{illegal_state, masks_irq}
 use Rattle.a64_decode.specs.Table.{decoded}
 use Rattle.a64_decode.specs.declared.instr.Instr.{Instr}
 use Rattle.a64_address.specs.declared.shape.MemShape.{MemShape}
 use Rattle.exceptions.specs.declared.class.Class.{Class}
 use Rattle.exceptions.specs.declared.class.Class.TheVariants.{IllegalState, InstructionAbortLower, InstructionAbortSame, PcAlignment, DataAbortLower, DataAbortSame, SpAlignment}
-use Rattle.exceptions.specs.declared.entry.Cause.TheVariants.{Sync}
+use Rattle.exceptions.specs.declared.entry.Cause.TheVariants.{Irq, Sync}
 use Rattle.exceptions.specs.Syndrome.{syndrome_of, class_number, abort_syndrome_of}
 use Rattle.exceptions.specs.Entry.{entered}
+use Rattle.a64_sysreg.specs.declared.moment.Moment.{Moment}
 use Rattle.a64_execute.specs.declared.need.Need.{Need}
 use Rattle.a64_execute.specs.declared.need.Need.TheVariants as need
 use Rattle.a64_execute.specs.Want.{wanted, bytes_of}
@@ -27,12 +28,14 @@ use Rattle.board.specs.declared.judged.Judged.TheVariants.{Memory, Port, Refused
 use Rattle.board.specs.Ports.{Places, PortAccess, stores_from, elements_read, elements_stored, elements_written}
 use Rattle.board.specs.Judge.{Reach}
 
--- What a step comes to. The core goes on, at EL1 where it takes an exception there; or an exception of this syndrome goes to
--- EL2, with the fault address of an abort, and else 0; or the step does something that isn't built.
+-- What a step comes to. The core goes on, at EL1 where it takes an exception there; and with that it takes the interrupt that
+-- its interface shows, if there is one, or ends the one with a number; or an exception of this syndrome goes to EL2, with the
+-- fault address of an abort, and else 0.
 pub data Outcome : Type 0 where
   Ran : Outcome
+  Acknowledged : Outcome
+  Ended : (id : ℕ) → Outcome
   Leave : (esr far : ℕ) → Outcome
-  Unbuilt : Outcome
 
 -- What a step does: the core after it, each byte of memory that it stores, with its address, in order, what it does to ports,
 -- in order, and what it comes to.
@@ -53,10 +56,6 @@ raised core esr far back = ran (entered core (Sync esr far back))
 -- an exception goes to EL2
 abbrev pub left : CoreData → ℕ → ℕ → Effect
 left core esr far = record { core = core; stored = []; touched = []; outcome = Leave esr far }
-
--- the step isn't built, and changes nothing
-abbrev pub unbuilt : CoreData → Effect
-unbuilt core = record { core = core; stored = []; touched = []; outcome = Unbuilt }
 
 -- the syndrome of a class that says nothing more
 abbrev pub bare_syndrome : Class → ℕ
@@ -125,50 +124,63 @@ abbrev pub at_port : CoreData → Instr → MemShape → Effect → Effect
 at_port core instr shape aligned = if is_misaligned shape then misaligned core instr shape else aligned
 
 -- a load, and a store of a value, as they are judged
-abbrev pub load_effect : Places → CoreData → ℕ → Instr → MemShape → Judged → Effect
-load_effect places core now instr shape (Memory got) = ran (finished core now instr got)
-load_effect places core now instr shape (Port got) =
+abbrev pub load_effect : Places → CoreData → Moment → Instr → MemShape → Judged → Effect
+load_effect places core moment instr shape (Memory got) = ran (finished core moment instr got)
+load_effect places core moment instr shape (Port got) =
     at_port core instr shape
-    (record (ran (finished core now instr got)) { touched = elements_read places shape.at shape.width shape.count })
-load_effect places core now instr shape (Refused fault) =
+    (record (ran (finished core moment instr got)) { touched = elements_read places shape.at shape.width shape.count })
+load_effect places core moment instr shape (Refused fault) =
     data_aborted core instr fault.stage2 (code_of fault.verdict) fault.at
 
 -- of a value
-abbrev pub store_effect : Places → CoreData → ℕ → Instr → MemShape → ℕ → Judged → Effect
-store_effect places core now instr shape value (Memory got) =
-    record (ran (finished core now instr 0)) { stored = stores_from shape.at (bytes_of shape) value }
-store_effect places core now instr shape value (Port got) =
+abbrev pub store_effect : Places → CoreData → Moment → Instr → MemShape → ℕ → Judged → Effect
+store_effect places core moment instr shape value (Memory got) =
+    record (ran (finished core moment instr 0)) { stored = stores_from shape.at (bytes_of shape) value }
+store_effect places core moment instr shape value (Port got) =
     at_port core instr shape
-    (record (ran (finished core now instr 0)) {
+    (record (ran (finished core moment instr 0)) {
       stored = elements_stored places shape.at shape.width shape.count value;
       touched = elements_written places shape.at shape.width shape.count value;
     })
-store_effect places core now instr shape value (Refused fault) =
+store_effect places core moment instr shape value (Refused fault) =
     data_aborted core instr fault.stage2 (code_of fault.verdict) fault.at
 
 -- What an instruction does that asks for this. An exception that goes to EL2 and is no abort changes PC at most.
-abbrev pub effect_of : Reach → CoreData → ℕ → Instr → Need → Effect
-effect_of reach core now instr need.Done = ran (finished core now instr 0)
-effect_of reach core now instr (need.Load shape) =
+abbrev pub effect_of : Reach → CoreData → Moment → Instr → Need → Effect
+effect_of reach core moment instr need.Done = ran (finished core moment instr 0)
+effect_of reach core moment instr need.Acknowledge = record (ran (finished core moment instr 0)) { outcome = Acknowledged }
+effect_of reach core moment instr (need.End id) = record (ran (finished core moment instr 0)) { outcome = Ended id }
+effect_of reach core moment instr (need.Load shape) =
     checked core instr shape
-    (load_effect reach.places core now instr shape (reach.loaded shape.at shape.width shape.count))
-effect_of reach core now instr (need.Store shape value) =
+    (load_effect reach.places core moment instr shape (reach.loaded shape.at shape.width shape.count))
+effect_of reach core moment instr (need.Store shape value) =
     checked core instr shape
-    (store_effect reach.places core now instr shape value (reach.storable shape.at shape.width shape.count))
-effect_of reach core now instr (need.Raise esr back) = raised core esr None back
-effect_of reach core now instr (need.Leave esr behind) = left (if behind then advanced core else core) esr 0
-effect_of reach core now instr need.Unbuilt = unbuilt core
+    (store_effect reach.places core moment instr shape value (reach.storable shape.at shape.width shape.count))
+effect_of reach core moment instr (need.Raise esr back) = raised core esr None back
+effect_of reach core moment instr (need.Leave esr behind) = left (if behind then advanced core else core) esr 0
 
--- What the fetch gives: a word, which isn't looked at in an illegal state, or a fault. It never gives a port.
-abbrev pub word_effect : Reach → CoreData → ℕ → Judged → Effect
-word_effect reach core now (Memory word) =
+-- a word that was fetched; it isn't looked at in an illegal state
+abbrev pub word_effect : Reach → CoreData → Moment → ℕ → Effect
+word_effect reach core moment word =
     if illegal_state core.pstate then raised core (bare_syndrome IllegalState) None core.pc
-    else effect_of reach core now (decoded word) (wanted core (decoded word))
-word_effect reach core now (Port got) = unbuilt core
-word_effect reach core now (Refused fault) = fetch_aborted core fault
+    else effect_of reach core moment (decoded word) (wanted core (decoded word))
 
--- What a step does at the system count `now`. A PC that isn't a multiple of 4 makes no fetch.
-unfoldable pub attempt : Reach → CoreData → ℕ → Effect
-attempt reach core now =
-    if core.pc % 4 == 0 then word_effect reach core now (reach.fetched core.pc)
+-- what the fetch gives: a word, whatever it is read from, or a fault
+abbrev pub fetch_effect : Reach → CoreData → Moment → Judged → Effect
+fetch_effect reach core moment (Memory word) = word_effect reach core moment word
+fetch_effect reach core moment (Port word) = word_effect reach core moment word
+fetch_effect reach core moment (Refused fault) = fetch_aborted core fault
+
+-- What an instruction does at a moment. A PC that isn't a multiple of 4 makes no fetch.
+unfoldable pub attempt : Reach → CoreData → Moment → Effect
+attempt reach core moment =
+    if core.pc % 4 == 0 then fetch_effect reach core moment (reach.fetched core.pc)
     else raised core (bare_syndrome PcAlignment) (Some core.pc) core.pc
+
+-- the core takes the interrupt that its interface shows: there is one, and PSTATE.I is clear
+abbrev pub takes_irq : CoreData → Moment → Bool
+takes_irq core moment = is_some moment.signal && not (masks_irq core.pstate)
+
+-- What a step does at a moment: an interrupt comes before all else that could happen.
+abbrev pub step_effect : Reach → CoreData → Moment → Effect
+step_effect reach core moment = if takes_irq core moment then ran (entered core Irq) else attempt reach core moment

@@ -3,6 +3,7 @@ pub mod Ports
 pub mod Judge
 pub mod First
 pub mod Attempt
+pub mod Interrupts
 pub mod Machine
 pub mod Reached
 pub mod View

@@ -6,33 +6,43 @@ use Rattle.bao_types.specs.ByteRange.{address_space_end, end, is_in_one, lies_in
 use Rattle.bao_types.specs.Region.{no_region, access_permission, covers, is_enabled, is_execute_never}
 use Rattle.bao_types.specs.declared.shape.PortSpot.{PortSpot}
 use Rattle.bao_types.specs.Shape.{ShapeData, event_limit, port_range, port_size}
+use Rattle.bao_types.specs.ListReg.{ListRegData, free_registers}
 use Rattle.a64_state.specs.Core.{CoreData}
 use Rattle.a64_state.specs.Registers.{reset_core}
+use Rattle.a64_sysreg.specs.declared.moment.Moment.{Moment}
 use Rattle.ports.specs.Registers.{after_input}
+use Rattle.gic_core.specs.Lines.{LinesData, after_ack, least_raised, quiet_lines}
+use Rattle.vgic_iface.specs.Interface.{best_listed, listed_signal}
 use Rattle.board.specs.Ports.{Places, PortStates, places_of, is_port, port_count, with_port, all_accessed}
 use Rattle.board.specs.Stage.{by_regions, by_entries}
 use Rattle.board.specs.declared.board.Exit.{Exit}
 use Rattle.board.specs.declared.board.Exit.TheVariants as exit
 use Rattle.board.specs.Judge.{Reach, reach_of}
-use Rattle.board.specs.Attempt.{Outcome, Ran, Leave, Unbuilt, Effect, attempt}
+use Rattle.board.specs.Attempt.{Effect, step_effect}
+use Rattle.board.specs.Interrupts.{core_after, exit_of, is_raised, lines_accessed, lines_given, lines_timed, lists_after, timed}
 
 -- bytes is all memory by address, 0 outside the used ranges; entries are each core's EL2 protection regions; ports is what each
--- port keeps, by its number; count is what the last step was handed; entered and spent count the steps and the events since
--- the board was fitted
+-- port keeps, by its number; lists are each core's list registers; lines are the raised interrupt lines; entered and spent count
+-- the steps and the events since the board was fitted
 pub record Machine : Type 0 where
   pub fitted : Bool
   pub shape : ShapeData
   pub bytes : ℕ → ℕ
   pub cores : List CoreData
+  pub lists : List (List ListRegData)
   pub entries : List (List Region)
   pub ports : PortStates
-  pub count : ℕ
+  pub lines : LinesData
   pub entered : ℕ
   pub spent : ℕ
 
 -- the registers of a core; there is none past the last
 abbrev pub core_at : List CoreData → ℕ → CoreData
 core_at cores core = slice_index_or cores core (reset_core 0)
+
+-- and its list registers
+abbrev pub lists_at : List (List ListRegData) → ℕ → List ListRegData
+lists_at lists core = slice_index_or lists core []
 
 abbrev pub entries_at : List (List Region) → ℕ → List Region
 entries_at entries core = slice_index_or entries core []
@@ -60,7 +70,7 @@ pub record IsFittable (shape : ShapeData) : Type 0 where
   pub entry_counts : All (λ place. place.entries ≤ 32) shape.cores
   pub events : shape.events ≤ event_limit
 
--- freshly fitted: memory and entries are zero, the cores are reset; the ports stay as they were
+-- freshly fitted: memory and entries are zero, the cores are reset, no line is raised; the ports stay as they were
 abbrev pub fitted_with : ShapeData → Machine → Machine
 fitted_with shape m =
     record {
@@ -68,9 +78,10 @@ fitted_with shape m =
       shape = shape;
       bytes = λ at. 0;
       cores = map (λ place. reset_core place.affinity) shape.cores;
+      lists = map (λ place. free_registers) shape.cores;
       entries = map (λ place. replicate place.entries no_region) shape.cores;
       ports = m.ports;
-      count = 0;
+      lines = quiet_lines shape.ports;
       entered = 0;
       spent = 0;
     }
@@ -118,34 +129,77 @@ abbrev pub core_started : ShapeData → ℕ → ℕ → ℕ → CoreData
 core_started shape core pc arg =
     begun (reset_core (slice_index_or shape.cores core (record { entries = 0; affinity = 0 })).affinity) pc arg
 
+-- its list registers are free again
+abbrev pub restarted : Machine → ℕ → ℕ → ℕ → Machine
+restarted m core pc arg =
+    record m {
+      cores = slice_set m.cores core (core_started m.shape core pc arg);
+      lists = slice_set m.lists core free_registers;
+    }
+
+-- these are the list registers of a core
+abbrev pub with_lists : Machine → ℕ → List ListRegData → Machine
+with_lists m core lists = record m { lists = slice_set m.lists core lists }
+
+-- after a core took the least interrupt that is raised for it
+abbrev pub acked : Machine → ℕ → Machine
+acked m core = record m { lines = after_ack m.lines core (least_raised m.lines core) }
+
 -- what a core reaches, by its EL1 regions and its EL2 entries
 abbrev pub machine_reach : Machine → ℕ → Reach
 machine_reach m core =
     reach_of (by_regions (core_at m.cores core)) (by_entries (entries_at m.entries core)) (port_places m.shape.ports) m.ports m.bytes
 
--- what the core's next step does at a count
-abbrev pub step_attempt : Machine → ℕ → ℕ → Effect
-step_attempt m core now = attempt (machine_reach m core) (core_at m.cores core) now
+-- what a core's step is handed at a count: its list registers signal an interrupt
+abbrev pub moment_at : Machine → ℕ → ℕ → Moment
+moment_at m core count =
+    record { count = count; signal = listed_signal (core_at m.cores core).iface (lists_at m.lists core) }
 
--- what a step tells of what it comes to
-abbrev pub exit_of : Outcome → Exit
-exit_of Ran = exit.Ran
-exit_of (Leave esr far) = exit.Sync esr far
-exit_of Unbuilt = exit.Unbuilt
+-- what the core's next step does at a count, where no line is raised for it
+abbrev pub machine_effect : Machine → ℕ → ℕ → Effect
+machine_effect m core count = step_effect (machine_reach m core) (core_at m.cores core) (moment_at m core count)
 
--- after a step of the core that is handed a count
-abbrev pub stepped : Machine → ℕ → ℕ → Machine
-stepped m core now =
+-- once a core's timer is looked at, at a count
+abbrev pub ticked : Machine → ℕ → ℕ → Machine
+ticked m core count =
     record m {
-      bytes = written (step_attempt m core now).stored m.bytes;
-      ports = all_accessed (step_attempt m core now).touched m.ports;
-      cores = slice_set m.cores core (step_attempt m core now).core;
-      count = now;
+      cores = slice_set m.cores core (timed (core_at m.cores core) count);
+      lines = lines_timed m.lines core (core_at m.cores core) count;
+    }
+
+-- after a step of the core that does this
+abbrev pub carried_out : Machine → ℕ → Effect → Machine
+carried_out m core effect =
+    record m {
+      bytes = written effect.stored m.bytes;
+      ports = all_accessed effect.touched m.ports;
+      lines = lines_accessed effect.touched m.ports m.lines;
+      cores = slice_set m.cores core (core_after effect (best_listed (lists_at m.lists core)));
+      lists = slice_set m.lists core (lists_after effect.outcome effect.core.iface (lists_at m.lists core));
       entered = m.entered + 1;
       spent = m.spent + 1;
     }
 
+-- A step of a core whose timer has been looked at. Where a line is raised for the core, EL2 is to take it, and that is all.
+abbrev pub proceeded : Machine → ℕ → ℕ → Machine
+proceeded m core count = if is_raised m.lines core then m else carried_out m core (machine_effect m core count)
+
+abbrev pub exit_after : Machine → ℕ → ℕ → Exit
+exit_after m core count =
+    if is_raised m.lines core then exit.Irq else exit_of (machine_effect m core count).outcome (lists_at m.lists core)
+
+-- after a step of the core that is handed a count, and how it ends
+abbrev pub stepped : Machine → ℕ → ℕ → Machine
+stepped m core count = proceeded (ticked m core count) core count
+
+abbrev pub step_exit : Machine → ℕ → ℕ → Exit
+step_exit m core count = exit_after (ticked m core count) core count
+
 -- after a port is given a byte
 abbrev pub port_given : Machine → ℕ → ℕ → Machine
 port_given m port byte =
-    record m { ports = with_port port (after_input (m.ports port) byte) m.ports; spent = m.spent + 1 }
+    record m {
+      ports = with_port port (after_input (m.ports port) byte) m.ports;
+      lines = lines_given m.ports port m.lines;
+      spent = m.spent + 1;
+    }

@@ -1,13 +1,13 @@
 -- Device ports as a core reaches them: which byte is which port's, what is done to them, and the elements of an access, of
 -- which each is carried out in one port or in memory.
-use Rattle.std.specs.Prelude.{ℕ, zero, suc, ◌+◌, ◌-◌, ◌*◌, ◌/◌, ◌%◌, ◌^◌, ◌==◌, nat_lt, Bool, if◌then◌else◌, List, [], ◌∷◌, ◌++◌, is_some, Option, None, Some}
+use Rattle.std.specs.Prelude.{ℕ, zero, suc, ◌+◌, ◌-◌, ◌*◌, ◌/◌, ◌%◌, ◌^◌, ◌==◌, nat_lt, Bool, false, ◌&&◌, ◌||◌, if◌then◌else◌, List, [], ◌∷◌, ◌++◌, is_some, Option, None, Some}
 use Rattle.std.specs.List.{find}
 use Rattle.std.specs.Option.{option_map}
 use Rattle.bao_types.specs.Bytes.{little_endian, next_address}
 use Rattle.bao_types.specs.ByteRange.{is_within}
 use Rattle.bao_types.specs.Shape.{port_range}
 use Rattle.ports.specs.PortState.{PortState, new_port, output_of}
-use Rattle.ports.specs.Registers.{after_read, after_write, value_read}
+use Rattle.ports.specs.Registers.{after_read, after_write, line_of_write, value_read}
 use Rattle.ports.specs.declared.port.PortKind.{PortKind}
 use Rattle.ports.specs.declared.port.PortKind.TheVariants.{Console, Scratch, Ticker}
 
@@ -70,6 +70,21 @@ accessed (WritePort port offset width value) states = with_port port (after_writ
 abbrev pub all_accessed : List PortAccess → PortStates → PortStates
 all_accessed [] states = states
 all_accessed (access ∷ accesses) states = all_accessed accesses (accessed access states)
+
+abbrev pub port_of : PortAccess → ℕ
+port_of (ReadPort port offset width) = port
+port_of (WritePort port offset width value) = port
+
+-- an access raises the line of its port
+abbrev pub raises : PortAccess → PortStates → Bool
+raises (ReadPort port offset width) states = false
+raises (WritePort port offset width value) states = line_of_write (states port) offset width value
+
+-- one of these accesses, in order, raises the line of a port
+abbrev pub raises_line : List PortAccess → PortStates → ℕ → Bool
+raises_line [] states port = false
+raises_line (access ∷ accesses) states port =
+    raises access states && port_of access == port || raises_line accesses (accessed access states) port
 
 -- so many bytes of memory from an address on, and the number that they are
 abbrev pub bytes_from : (ℕ → ℕ) → ℕ → ℕ → List ℕ

@@ -1,11 +1,12 @@
--- What a step can disturb and what it can observe: laws of `attempt`, by which machine and model make each step.
+-- What a step can disturb and what it can observe: laws of `step_effect`, by which machine and model make each step.
 use Rattle.std.specs.Prelude.{◌≡◌, ℕ, Bool, ◌⊎◌, ◌||◌, IsTrue, IsFalse, Some}
 use Rattle.bao_types.specs.declared.access.Access.TheVariants.{Read, Write, Exec}
 use Rattle.a64_state.specs.Core.{CoreData}
+use Rattle.a64_sysreg.specs.declared.moment.Moment.{Moment}
 use Rattle.board.specs.Stage.{Stage, both, is_allowed}
-use Rattle.board.specs.Ports.{Places, PortStates, PortByte, all_accessed}
+use Rattle.board.specs.Ports.{Places, PortStates, PortByte, all_accessed, raises_line}
 use Rattle.board.specs.Judge.{reach_of}
-use Rattle.board.specs.Attempt.{Effect, attempt}
+use Rattle.board.specs.Attempt.{Effect, step_effect}
 use Rattle.board.specs.Machine.{written}
 
 -- a stage lets its core read or write a byte of the port
@@ -16,16 +17,17 @@ pub record ReachesPort (stage : Stage) (places : Places) (port : ℕ) : Type 0 w
   pub place : places at ≡ Some (record { port = port; offset = offset })
 
 -- an effect leaves each byte of memory that the stage doesn't let its core write, and each port of which it lets it neither read
--- nor write a byte
+-- nor write a byte, whose line it doesn't raise either
 pub record LeavesTheRest (stage : Stage) (places : Places) (states : PortStates) (bytes : ℕ → ℕ) (effect : Effect) : Type 0 where
   pub memory : (at : ℕ) → IsFalse (is_allowed (stage Write at)) → written effect.stored bytes at ≡ bytes at
   pub ports : (port : ℕ) → (ReachesPort stage places port → ⊥) → all_accessed effect.touched states port ≡ states port
+  pub lines : (port : ℕ) → (ReachesPort stage places port → ⊥) → IsFalse (raises_line effect.touched states port)
 
 -- so does a step, by both stages
 abbrev pub DisturbsNothingElse : Type 0
 DisturbsNothingElse =
-    (one two : Stage) (places : Places) (states : PortStates) (bytes : ℕ → ℕ) (core : CoreData) (now : ℕ)
-    → LeavesTheRest (both one two) places states bytes (attempt (reach_of one two places states bytes) core now)
+    (one two : Stage) (places : Places) (states : PortStates) (bytes : ℕ → ℕ) (core : CoreData) (moment : Moment)
+    → LeavesTheRest (both one two) places states bytes (step_effect (reach_of one two places states bytes) core moment)
 
 -- two memories are equal at each byte that a core may read or execute
 abbrev pub AreAlike : Stage → (ℕ → ℕ) → (ℕ → ℕ) → Type 0
@@ -40,6 +42,6 @@ ArePortsAlike stage places left right = (port : ℕ) → ReachesPort stage place
 -- read nor execute, and nothing of the ports of which they let it neither read nor write a byte.
 abbrev pub ObservesNothingElse : Type 0
 ObservesNothingElse =
-    (one two : Stage) (places : Places) (states others : PortStates) (left right : ℕ → ℕ) (core : CoreData) (now : ℕ)
+    (one two : Stage) (places : Places) (states others : PortStates) (left right : ℕ → ℕ) (core : CoreData) (moment : Moment)
     → ArePortsAlike (both one two) places states others → AreAlike (both one two) left right
-    → attempt (reach_of one two places states left) core now ≡ attempt (reach_of one two places others right) core now
+    → step_effect (reach_of one two places states left) core moment ≡ step_effect (reach_of one two places others right) core moment

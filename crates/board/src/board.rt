@@ -3,14 +3,17 @@ ghost use Rattle.std.specs.List.{list_any};
 ghost use Rattle.bao_types.specs.Shape.{shape_data};
 
 use crate::CoreView;
-use bao_types::{OutOfMemory, Region, Shape};
+use bao_types::{ListReg, OutOfMemory, Region, Shape};
 use std::alloc::Global;
 
 /// Why a core stopped after a step.
 #[derive(Clone, Copy, Debug, PartialEq, Eq)]
 pub enum Exit {
-    /// The core has executed one instruction, or has taken an exception at EL1.
+    /// The core has executed one instruction, or has taken an exception or an interrupt at EL1.
     Ran,
+    /// An interrupt line is raised for the core, and EL2 is to take it ([`Board::ack`]). Nothing has changed but what the core's
+    /// timer made of its line.
+    Irq,
     /// An exception goes to EL2: a call, or an abort that stage 2 makes. HVC leaves PC behind itself, all else leaves it at
     /// the instruction; the other registers and memory are as before.
     Sync {
@@ -19,21 +22,27 @@ pub enum Exit {
         /// The fault address of an abort, else 0.
         far: u64,
     },
-    /// The core would have done something that the machine hasn't built yet. Its registers and memory are as before.
-    Unbuilt,
+    /// The core has ended an interrupt that stands in none of its list registers; its end is EL2's. The instruction is carried
+    /// out, and the running priority has been dropped.
+    End {
+        /// The interrupt's number, below 96.
+        id: u16,
+    },
 }
 
 /// A machine with memory, cores and ports, whose cores' EL2 entries decide what a guest may touch.
 ///
-/// Its ports are those of the standard list: 0 to 7 are consoles, 8 to 11 scratch ports and 12 to 15 tickers. A board is fitted once with its shape. Every call but `fit` and `entered` asks that it is fitted, and a core, entry or
-/// port in a call is one of the shape's.
+/// Its ports are those of the standard list: 0 to 7 are consoles, 8 to 11 scratch ports and 12 to 15 tickers. A board is fitted
+/// once with its shape. Every call but `fit` and `entered` asks that it is fitted, and a core, entry or port in a call is one of
+/// the shape's.
 pub trait Board {
-    ghost use Rattle.board.specs.Machine.{Machine, IsFittable, fitted_with, over, AreUsed, IsSafeEntry, with_entry, entries_at, with_core, core_started, core_at, step_attempt, stepped, exit_of};
+    ghost use Rattle.board.specs.Machine.{Machine, IsFittable, fitted_with, over, AreUsed, IsSafeEntry, with_entry, entries_at, with_core, core_at, lists_at, restarted, with_lists, acked, stepped, step_exit};
     ghost use Rattle.board.specs.Machine.{port_given};
     ghost use Rattle.a64_state.specs.Registers.{with_x, x_of};
     ghost use Rattle.a64_execute.specs.Branch.{advanced};
     ghost use Rattle.bao_types.specs.Region.{no_region, IsWithinMasks};
     ghost use Rattle.board.specs.Ports.{outputs, port_count, standard_ports};
+    ghost use Rattle.gic_core.specs.Lines.{least_raised};
     ghost use Rattle.board.specs.View.{view_of};
 
     /// What the board is at a moment.
@@ -73,11 +82,11 @@ pub trait Board {
         requires index { index < length (entries_at (state self.now).entries core) }
         ensures { result ≡ slice_index_or (entries_at (state self.now).entries core) index no_region };
 
-    /// Resets a core, and lets it begin at `pc` with `arg` in X0.
+    /// Resets a core, whose list registers become free, and lets it begin at `pc` with `arg` in X0.
     fn reset_core(&mut self, core: u8, pc: u64, arg: u64)
         requires fitted { (state self.old).fitted ≡ true }
         requires core { core < length (state self.old).shape.cores }
-        ensures { state self.new ≡ with_core (state self.old) core (core_started (state self.old).shape core pc arg) };
+        ensures { state self.new ≡ restarted (state self.old) core pc arg };
 
     /// A general register of a core: X0 to X30 by their numbers.
     fn gpr(&self, core: u8, n: u8) -> u64
@@ -99,13 +108,34 @@ pub trait Board {
         requires core { core < length (state self.old).shape.cores }
         ensures { state self.new ≡ with_core (state self.old) core (advanced (core_at (state self.old).cores core)) };
 
-    /// Lets a core take one step, at the system count `now`: an instruction, or the exception that comes in its place.
+    /// The list registers of a core.
+    fn lists(&self, core: u8) -> [ListReg; 4]
+        requires fitted { (state self.now).fitted ≡ true }
+        requires core { core < length (state self.now).shape.cores }
+        ensures { result ≡ lists_at (state self.now).lists core };
+
+    /// Sets the list registers of a core.
+    fn set_lists(&mut self, core: u8, lists: &[ListReg; 4])
+        requires fitted { (state self.old).fitted ≡ true }
+        requires core { core < length (state self.old).shape.cores }
+        ensures { state self.new ≡ with_lists (state self.old) core lists.now };
+
+    /// Takes the least interrupt that is raised for a core, and clears its line. None exactly where no line is raised for it;
+    /// then nothing changes.
+    fn ack(&mut self, core: u8) -> Option<u16>
+        requires fitted { (state self.old).fitted ≡ true }
+        requires core { core < length (state self.old).shape.cores }
+        ensures value { result ≡ least_raised (state self.old).lines core }
+        ensures state { state self.new ≡ acked (state self.old) core };
+
+    /// Lets a core take one step, at the system count `now`: its timer is looked at first; then, where no line is raised for the
+    /// core, it takes an interrupt that its list registers signal, or an instruction, or the exception that comes in its place.
     fn step(&mut self, core: u8, now: u64) -> Exit
         requires fitted { (state self.old).fitted ≡ true }
         requires core { core < length (state self.old).shape.cores }
         requires spent { (state self.old).spent < (state self.old).shape.events }
         ensures state { state self.new ≡ stepped (state self.old) core now }
-        ensures exit { result ≡ exit_of (step_attempt (state self.old) core now).outcome };
+        ensures exit { result ≡ step_exit (state self.old) core now };
 
     /// Gives a port, which the shape has, a byte.
     fn port_input(&mut self, port: u8, byte: u8)

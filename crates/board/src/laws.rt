@@ -18,7 +18,7 @@ pub fn a_step_disturbs_nothing_else()
 
 /// A step of a core does the same over any two memories that are equal at each byte that both stages let it read
 /// or execute, and any two states of the ports that are equal for those of which they let it read or write a byte: nothing
-/// of the others shows in its registers, in what it stores, in what it does to ports, or in whether it is built. The
+/// of the others shows in its registers, in what it stores, in what it does to ports, or in what it comes to. The
 /// function does nothing; its contract is the law.
 #[tactic(auto, using(crate::proofs::Reached::observes_nothing_else))]
 pub fn a_step_observes_nothing_else()

@@ -15,28 +15,28 @@ pub record Place : Type 0 where
   pub hyp : HypData
   pub machine : Machine
 
-abbrev pub flat_of : Place → Flat
-flat_of place = stands_for place.hyp place.machine
+abbrev pub flat_of : ConfigData → Place → Flat
+flat_of cfg place = stands_for cfg place.hyp place.machine
 
 -- these events were taken from the start to here
 pub record IsReached (cfg : ConfigData) (start now : Place) (taken : List FlatEvent) : Type 0 where
   pub tidy : Tidy cfg now.hyp now.machine
-  pub state : flat_of now ≡ flat_run cfg (flat_of start) taken
-  pub entered : now.machine.entered ≡ start.machine.entered + entered_count cfg (flat_of start) taken
+  pub state : flat_of cfg now ≡ flat_run cfg (flat_of cfg start) taken
+  pub entered : now.machine.entered ≡ start.machine.entered + entered_count cfg (flat_of cfg start) taken
   pub shape : now.machine.shape ≡ start.machine.shape
   pub entries : now.machine.entries ≡ start.machine.entries
 
 -- and there are so many of them, and all of them are built
 pub record IsRunning (cfg : ConfigData) (start now : Place) (done : ℕ) (taken left all : List FlatEvent) : Type 0 where
   pub reached : IsReached cfg start now taken
-  pub built : first_unbuilt cfg (flat_of now) done left ≡ first_unbuilt cfg (flat_of start) 0 all
+  pub built : first_unbuilt cfg (flat_of cfg now) done left ≡ first_unbuilt cfg (flat_of cfg start) 0 all
   pub spent : now.machine.spent ≤ start.machine.spent + done
 
 -- what one event makes of a place
 pub record Takes (cfg : ConfigData) (now next : Place) (e : FlatEvent) : Type 0 where
   pub tidy : Tidy cfg next.hyp next.machine
-  pub state : flat_of next ≡ flat_step cfg (flat_of now) e
-  pub entered : next.machine.entered ≡ now.machine.entered + (if is_entered cfg (flat_of now) e then 1 else 0)
+  pub state : flat_of cfg next ≡ flat_step cfg (flat_of cfg now) e
+  pub entered : next.machine.entered ≡ now.machine.entered + (if is_entered cfg (flat_of cfg now) e then 1 else 0)
   pub spent : next.machine.spent ≤ now.machine.spent + 1
   pub shape : next.machine.shape ≡ now.machine.shape
   pub entries : next.machine.entries ≡ now.machine.entries
@@ -56,10 +56,10 @@ module _ (cfg : ConfigData) (start now next : Place) (e : FlatEvent) (taken : Li
   pub one_further : IsReached cfg start now taken → IsReached cfg start next (taken ++ e ∷ [])
   one_further reached = record {
     tidy = takes.tidy;
-    state = takes.state ∙ ap (λ f. flat_step cfg f e) reached.state ∙ sym (flat_run-push cfg e (flat_of start) taken);
+    state = takes.state ∙ ap (λ f. flat_step cfg f e) reached.state ∙ sym (flat_run-push cfg e (flat_of cfg start) taken);
     entered =
         let here = ap (λ f. as_count (is_entered cfg f e)) reached.state in
-        let counted = entered_count-push cfg e (flat_of start) taken in
+        let counted = entered_count-push cfg e (flat_of cfg start) taken in
         omega (arith, takes.entered, here, counted, reached.entered);
     shape = takes.shape ∙ reached.shape;
     entries = takes.entries ∙ reached.entries;
@@ -67,28 +67,28 @@ module _ (cfg : ConfigData) (start now next : Place) (e : FlatEvent) (taken : Li
 
   module _ (done : ℕ) (left all : List FlatEvent) (running : IsRunning cfg start now done taken (e ∷ left) all) where
     -- the event does something that isn't built: it is the first
-    pub halts : false ≡ not (is_event_unbuilt cfg (flat_of now) e) → first_unbuilt cfg (flat_of start) 0 all ≡ Some done
-    halts answer = sym running.built ∙ by_test (is_event_unbuilt cfg (flat_of now) e) answer
+    pub halts : false ≡ not (is_event_unbuilt cfg (flat_of cfg now) e) → first_unbuilt cfg (flat_of cfg start) 0 all ≡ Some done
+    halts answer = sym running.built ∙ by_test (is_event_unbuilt cfg (flat_of cfg now) e) answer
       where
         by_test : (unbuilt : Bool) → false ≡ not unbuilt
-            → (if unbuilt then Some done else first_unbuilt cfg (flat_step cfg (flat_of now) e) (done + 1) left) ≡ Some done
+            → (if unbuilt then Some done else first_unbuilt cfg (flat_step cfg (flat_of cfg now) e) (done + 1) left) ≡ Some done
         by_test true h = refl
         by_test false h = cc
 
     -- it is built, and the run goes on
-    pub goes_on : true ≡ not (is_event_unbuilt cfg (flat_of now) e)
+    pub goes_on : true ≡ not (is_event_unbuilt cfg (flat_of cfg now) e)
         → IsRunning cfg start next (done + 1) (taken ++ e ∷ []) left all
     goes_on answer = record {
       reached = one_further running.reached;
       built =
-          ap (λ f. first_unbuilt cfg f (done + 1) left) takes.state ∙ by_test (is_event_unbuilt cfg (flat_of now) e) answer
+          ap (λ f. first_unbuilt cfg f (done + 1) left) takes.state ∙ by_test (is_event_unbuilt cfg (flat_of cfg now) e) answer
           ∙ running.built;
       spent = omega (arith, running.spent, takes.spent);
     }
       where
         by_test : (unbuilt : Bool) → true ≡ not unbuilt
-            → first_unbuilt cfg (flat_step cfg (flat_of now) e) (done + 1) left
-            ≡ (if unbuilt then Some done else first_unbuilt cfg (flat_step cfg (flat_of now) e) (done + 1) left)
+            → first_unbuilt cfg (flat_step cfg (flat_of cfg now) e) (done + 1) left
+            ≡ (if unbuilt then Some done else first_unbuilt cfg (flat_step cfg (flat_of cfg now) e) (done + 1) left)
         by_test true h = cc
         by_test false h = refl
 
@@ -105,8 +105,8 @@ module _ (cfg : ConfigData) (start now next : Place) (all : List Event) (n : ℕ
         subst (λ left. IsRunning cfg start now n (take n (map flat_event all)) left (map flat_event all))
         (ap (map flat_event) (next_of all n d low)) at
 
-    pub halts_here : false ≡ not (is_event_unbuilt cfg (flat_of now) (flat_event (get_or all n d)))
-        → first_unbuilt cfg (flat_of start) 0 (map flat_event all) ≡ Some n
+    pub halts_here : false ≡ not (is_event_unbuilt cfg (flat_of cfg now) (flat_event (get_or all n d)))
+        → first_unbuilt cfg (flat_of cfg start) 0 (map flat_event all) ≡ Some n
     halts_here =
         halts cfg start now next (flat_event (get_or all n d)) (take n (map flat_event all)) takes n
         (map flat_event (drop (n + 1) all)) (map flat_event all) with_first
@@ -116,7 +116,7 @@ module _ (cfg : ConfigData) (start now next : Place) (all : List Event) (n : ℕ
         subst (IsReached cfg start next) (sym (taken_next all n d low))
         (one_further cfg start now next (flat_event (get_or all n d)) (take n (map flat_event all)) takes at.reached)
 
-    pub one_on : true ≡ not (is_event_unbuilt cfg (flat_of now) (flat_event (get_or all n d))) → IsAt cfg start next all (n + 1)
+    pub one_on : true ≡ not (is_event_unbuilt cfg (flat_of cfg now) (flat_event (get_or all n d))) → IsAt cfg start next all (n + 1)
     one_on built =
         subst (λ taken. IsRunning cfg start next (n + 1) taken (map flat_event (drop (n + 1) all)) (map flat_event all))
         (sym (taken_next all n d low))
@@ -126,5 +126,5 @@ module _ (cfg : ConfigData) (start now next : Place) (all : List Event) (n : ℕ
   pub reached_all : length all ≤ n → IsReached cfg start now (map flat_event all)
   reached_all end = subst (IsReached cfg start now) (all_taken all n end) at.reached
 
-  pub all_built : length all ≤ n → first_unbuilt cfg (flat_of start) 0 (map flat_event all) ≡ None
-  all_built end = sym at.built ∙ ap (λ left. first_unbuilt cfg (flat_of now) n (map flat_event left)) (none_left all n end)
+  pub all_built : length all ≤ n → first_unbuilt cfg (flat_of cfg start) 0 (map flat_event all) ≡ None
+  all_built end = sym at.built ∙ ap (λ left. first_unbuilt cfg (flat_of cfg now) n (map flat_event left)) (none_left all n end)

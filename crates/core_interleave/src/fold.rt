@@ -27,19 +27,19 @@ pub fn run<B: Board>(
     requires few { length events.now ≤ event_limit }
     requires spent { (B.state board.old).spent + length events.now ≤ (B.state board.old).shape.events }
     ensures tidy { Tidy (checked_data checked.now) hyp.new (B.state board.new) }
-    ensures built { let f = stands_for hyp.old (B.state board.old) in
+    ensures built { let f = stands_for (checked_data checked.now) hyp.old (B.state board.old) in
         let first = first_unbuilt (checked_data checked.now) f 0 (map flat_event events.now) in
         MatchResult result (λ _. first ≡ None) (λ number. first ≡ Some number) }
-    ensures state { let f = stands_for hyp.old (B.state board.old) in
-        stands_for hyp.new (B.state board.new)
+    ensures state { let f = stands_for (checked_data checked.now) hyp.old (B.state board.old) in
+        stands_for (checked_data checked.now) hyp.new (B.state board.new)
         ≡ flat_run (checked_data checked.now) f (taken_events result (map flat_event events.now)) }
-    ensures entered { let f = stands_for hyp.old (B.state board.old) in
+    ensures entered { let f = stands_for (checked_data checked.now) hyp.old (B.state board.old) in
         (B.state board.new).entered
         ≡ (B.state board.old).entered
         + entered_count (checked_data checked.now) f (taken_events result (map flat_event events.now)) }
-    ensures alone { let f = stands_for hyp.old (B.state board.old) in
+    ensures alone { let f = stands_for (checked_data checked.now) hyp.old (B.state board.old) in
         EndsAsAlone (checked_data checked.now) f (taken_events result (map flat_event events.now))
-        (stands_for hyp.new (B.state board.new)) }
+        (stands_for (checked_data checked.now) hyp.new (B.state board.new)) }
     ensures shape { (B.state board.new).shape ≡ (B.state board.old).shape }
     ensures entries { (B.state board.new).entries ≡ (B.state board.old).entries }
 {

@@ -1,6 +1,7 @@
 -- Lemmas on the raised lines, for this crate and its callers.
-use Rattle.std.proofs.Common.{arith, ◌≡◌, ℕ, ◌+◌, ◌<◌, List, [], ◌∷◌, ◌++◌, Bool, true, false, if◌then◌else◌, cond, Some, min, length, get_or, take, map, filter, refl, sym, ◌∙◌, ap, append_assoc, not, ◌==◌, ◌&&◌, slice_index_or, set, replicate, zero, suc, subst, ◌≤◌}
+use Rattle.std.proofs.Common.{arith, ◌≡◌, ℕ, ◌+◌, ◌<◌, List, [], ◌∷◌, ◌++◌, Bool, true, false, if◌then◌else◌, cond, Some, min, length, get_or, take, map, filter, refl, sym, ◌∙◌, ap, append_assoc, not, ◌==◌, ◌&&◌, ◌||◌, is_some, slice_index_or, set, replicate, zero, suc, subst, ◌≤◌}
 use Rattle.std.specs.Prelude.{Contains}
+use Rattle.std.specs.List.{list_any}
 use Rattle.std.specs.Option.{option_map_or}
 use Rattle.std.proofs.lemmas.Bool.Decides.{nat_tests}
 use Rattle.std.proofs.lemmas.List.{append-nil, map-append}
@@ -9,7 +10,7 @@ use Rattle.std.proofs.lemmas.List.Elements.{filter-append, filter_more}
 use Rattle.gic_core.specs.declared.port_line.PortLine.{PortLine}
 use Rattle.gic_core.specs.Least.{IsLeast, least}
 use Rattle.bao_types.specs.declared.shape.PortSpot.{PortSpot}
-use Rattle.gic_core.specs.Lines.{LinesData, least_raised, quiet_lines, raised_intids, raised_ppis, raised_spis, without_intid}
+use Rattle.gic_core.specs.Lines.{LinesData, is_any_raised, least_raised, quiet_lines, raised_intids, raised_ppis, raised_spis, without_intid}
 use Rattle.gic_core.specs.PortLine.{acknowledged_by, is_raised_for, lesser, quiet_line, reaches}
 use Rattle.gic_core.proofs.LeastLemmas.{least-push, least_is_least}
 
@@ -134,3 +135,37 @@ length-raised_intids-without_intid lines core intid is =
   where
     ==-same : (number : ℕ) → (number == number) ≡ true
     ==-same number = grind (arith, nat_tests)
+
+-- nor is one where all lines are new
+pub none_quiet : (spots : List PortSpot) → false ≡ list_any (λ line. line.raised) (map quiet_line spots)
+none_quiet [] = refl
+none_quiet (spot ∷ spots) = none_quiet spots
+
+-- where no line is raised at all, none is for a core
+pub none_is_raised : (lines : LinesData) (core : ℕ) → is_any_raised lines.ppis lines.ports ≡ false → is_some (least_raised lines core) ≡ false
+none_is_raised lines core none =
+    ap (λ raised. is_some (least raised))
+    ((λ t. (if ppi lines.ppis core (or_left _ _ none) t then 27 ∷ [] else []) ++ spis lines.ports (or_right _ _ none) t))
+  where
+    or_left : (a b : Bool) → a || b ≡ false → a ≡ false
+    or_left true b is = cc
+    or_left false b is = refl
+
+    or_right : (a b : Bool) → a || b ≡ false → b ≡ false
+    or_right true b is = cc
+    or_right false b is = is
+
+    ppi : (ppis : List Bool) (core : ℕ) → list_any (λ raised. raised) ppis ≡ false → get_or ppis core false ≡ false
+    ppi [] core is = refl
+    ppi (raised ∷ ppis) zero is = or_left _ _ is
+    ppi (raised ∷ ppis) (suc core) is = ppi ppis core (or_right raised _ is)
+
+    quiet : (line : PortLine) → line.raised ≡ false → is_raised_for line core ≡ false
+    quiet line is = ap (λ raised. raised && reaches line core) is
+
+    spis : (ports : List PortLine) → list_any (λ line. line.raised) ports ≡ false → raised_spis ports core ≡ []
+    spis [] is = refl
+    spis (line ∷ ports) is =
+        raised_spis-cons line ports core
+        ∙ ap (λ raised. if raised then line.spi ∷ raised_spis ports core else raised_spis ports core) (quiet line (or_left _ _ is))
+        ∙ spis ports (or_right line.raised _ is)

@@ -2,7 +2,8 @@
 --
 -- A port has one line for all cores of its VM. That every line is an edge, which stays raised until it is
 -- acknowledged once, is our own choice.
-use Rattle.std.specs.Prelude.{◌==◌, ℕ, Bool, true, false, if◌then◌else◌, List, [], ◌∷◌, ◌++◌, Option, Some, None, map, filter, replicate, slice_index_or, slice_set}
+use Rattle.std.specs.Prelude.{◌==◌, ℕ, Bool, true, false, if◌then◌else◌, List, [], ◌∷◌, ◌++◌, ◌||◌, Option, Some, None, map, filter, replicate, slice_index_or, slice_set}
+use Rattle.std.specs.List.{list_any}
 use Rattle.bao_types.specs.declared.shape.PortSpot.{PortSpot}
 use Rattle.gic_core.specs.declared.port_line.PortLine.{PortLine}
 use Rattle.gic_core.specs.Least.{least}
@@ -21,9 +22,9 @@ quiet_lines spots = record { ppis = replicate 8 false; ports = map quiet_line sp
 abbrev pub with_ppi : LinesData → ℕ → LinesData
 with_ppi lines core = record lines { ppis = slice_set lines.ppis core true }
 
--- SPI `spi` is raised
-abbrev pub with_spi : LinesData → ℕ → LinesData
-with_spi lines spi = record lines { ports = map (raised_by spi) lines.ports }
+-- the line of a port is raised
+abbrev pub with_port : LinesData → ℕ → LinesData
+with_port lines port = record lines { ports = map (raised_by port) lines.ports }
 
 -- PPI 27 of `core`, where it is raised
 abbrev pub raised_ppis : LinesData → ℕ → List ℕ
@@ -53,3 +54,7 @@ without_intid lines core intid =
 abbrev pub after_ack : LinesData → ℕ → Option ℕ → LinesData
 after_ack lines core None = lines
 after_ack lines core (Some intid) = without_intid lines core intid
+
+-- a line is raised, for whichever core
+abbrev pub is_any_raised : List Bool → List PortLine → Bool
+is_any_raised ppis ports = list_any (λ raised. raised) ppis || list_any (λ line. line.raised) ports

@@ -19,11 +19,11 @@ lesser line core least = if is_raised_for line core then Some (option_map_or (mi
 
 -- the line as it stands in a new board: not raised
 abbrev pub quiet_line : PortSpot → PortLine
-quiet_line spot = record { spi = spot.spi; cores = spot.cores; raised = false }
+quiet_line spot = record { port = spot.id; spi = spot.spi; cores = spot.cores; raised = false }
 
--- the line after SPI `spi` is raised
+-- the line after that of a port is raised
 abbrev pub raised_by : ℕ → PortLine → PortLine
-raised_by spi line = record line { raised = line.raised || line.spi == spi }
+raised_by port line = record line { raised = line.raised || line.port == port }
 
 -- the line after `core` acknowledged the interrupt `intid`
 abbrev pub acknowledged_by : ℕ → ℕ → PortLine → PortLine

@@ -1,6 +1,7 @@
 ghost use Rattle.std.specs.Prelude.{◌≡◌, ◌<◌, is_some};
+ghost use Rattle.std.specs.List.{list_any};
 ghost use Rattle.gic_core.specs.Least.{IsLeast};
-ghost use Rattle.gic_core.specs.Lines.{after_ack, least_raised, quiet_lines, raised_intids, with_ppi, with_spi};
+ghost use Rattle.gic_core.specs.Lines.{after_ack, is_any_raised, least_raised, quiet_lines, raised_intids, with_port, with_ppi};
 
 use crate::PortLine;
 use crate::port_line::{acknowledge, raise};
@@ -16,16 +17,21 @@ const TIMER_PPI: u16 = 27;
 pub struct Lines {
     ppis: [bool; 8],
     ports: ArrayVec<PortLine, 16>,
+    /// Whether any of them is raised, for whichever core. It is asked before every step, and is false as a rule.
+    any: bool,
 }
 
 impl Model for Lines {
-    ghost use Rattle.gic_core.specs.Lines.{LinesData};
+    ghost use Rattle.std.specs.Prelude.{◌≡◌};
+    ghost use Rattle.gic_core.specs.Lines.{LinesData, is_any_raised};
 
     ghost Value = { LinesData };
 
     ghost view = { λ l. record { ppis = l.ppis; ports = l.ports.items } };
 
-    ghost inverse = { λ d. record { ppis = d.ppis; ports = record { items = d.ports } } };
+    ghost invariant = { λ l. l.any ≡ is_any_raised l.ppis l.ports.items };
+
+    ghost inverse = { λ d. record { ppis = d.ppis; ports = record { items = d.ports }; any = is_any_raised d.ppis d.ports } };
 }
 
 impl Lines {
@@ -36,6 +42,7 @@ impl Lines {
         let mut ports = ArrayVec::new();
         for spot in spots.as_slice() {
             ports.push(PortLine {
+                port: spot.id,
                 spi: spot.spi,
                 cores: spot.cores,
                 raised: false,
@@ -44,6 +51,7 @@ impl Lines {
         Lines {
             ppis: [false; 8],
             ports,
+            any: false,
         }
     }
 
@@ -53,20 +61,27 @@ impl Lines {
         ensures { self.new ≡ with_ppi self.old core }
     {
         self.ppis[usize::from(core)] = true;
+        self.any = is_any_raised(&self.ppis, &self.ports);
     }
 
-    /// Raises the SPI of a port, for the cores of the VM that owns it. An SPI that no port has changes nothing.
-    pub fn raise_spi(&mut self, spi: u16)
-        ensures { self.new ≡ with_spi self.old spi }
+    /// Raises the line of a port, for the cores of the VM that owns it. A port that the board doesn't have changes nothing.
+    pub fn raise_port(&mut self, port: u8)
+        ensures { self.new ≡ with_port self.old port }
     {
-        raise(self.ports.as_mut_slice(), spi);
+        raise(self.ports.as_mut_slice(), port);
+        self.any = is_any_raised(&self.ppis, &self.ports);
     }
 
     /// Whether any line is raised for the core.
+    #[tactic(auto, using(crate::proofs::LinesLemmas::none_is_raised))]
+    #[inline(always)]
     pub fn raised(&self, core: u8) -> bool
         requires { core < 8 }
         ensures { result ≡ is_some (least_raised self.now core) }
     {
+        if !self.any {
+            return false;
+        }
         self.least_raised(core).is_some()
     }
 
@@ -83,10 +98,12 @@ impl Lines {
             self.ppis[usize::from(core)] = false;
         }
         acknowledge(self.ports.as_mut_slice(), core, intid);
+        self.any = is_any_raised(&self.ppis, &self.ports);
         Some(intid)
     }
 
     /// The least interrupt that is raised for the core.
+    #[inline(never)]
     fn least_raised(&self, core: u8) -> Option<u16>
         requires { core < 8 }
         ensures { result ≡ least_raised self.now core }
@@ -101,4 +118,23 @@ impl Lines {
         }
         least
     }
+}
+
+/// Whether any line is raised, for whichever core.
+fn is_any_raised(ppis: &[bool; 8], ports: &[PortLine]) -> bool
+    ensures { result ≡ is_any_raised ppis.now ports.now }
+{
+    is_ppi_raised(ppis) || is_port_raised(ports)
+}
+
+fn is_ppi_raised(ppis: &[bool; 8]) -> bool
+    ensures { result ≡ list_any (λ raised. raised) ppis.now }
+{
+    ppis.iter().any(|raised| *raised)
+}
+
+fn is_port_raised(ports: &[PortLine]) -> bool
+    ensures { result ≡ list_any (λ line. line.raised) ports.now }
+{
+    ports.iter().any(|line| line.raised)
 }

@@ -4,6 +4,8 @@ ghost use Rattle.gic_core.specs.PortLine.{acknowledged_by, lesser, raised_by, re
 /// The interrupt line of a device port.
 #[derive(Clone, Copy, Debug, Default, PartialEq, Eq)]
 pub struct PortLine {
+    /// The port's number.
+    pub port: u8,
     /// The number of the port's interrupt.
     pub spi: u16,
     /// The cores of the VM that owns the port, one bit each.
@@ -35,12 +37,12 @@ impl PortLine {
     }
 }
 
-/// Raises the lines of this SPI.
-pub(crate) fn raise(ports: &mut [PortLine], spi: u16)
-    ensures { ports.new ≡ map (raised_by spi) ports.old }
+/// Raises the line of this port.
+pub(crate) fn raise(ports: &mut [PortLine], port: u8)
+    ensures { ports.new ≡ map (raised_by port) ports.old }
 {
     for line in ports.iter_mut() {
-        line.raised = line.raised || line.spi == spi;
+        line.raised = line.raised || line.port == port;
     }
 }
 

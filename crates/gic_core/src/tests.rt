@@ -31,8 +31,8 @@ fn lines() -> Lines {
 
 /// A call, with what it is to answer.
 enum Call {
-    /// The port's interrupt number.
-    Spi(u16),
+    /// The port whose line is raised.
+    Port(u8),
     /// The core.
     Ppi(u8),
     /// The core, and whether a line is raised for it.
@@ -41,12 +41,12 @@ enum Call {
     Ack(u8, Option<u16>),
 }
 
-use Call::{Ack, Ppi, Raised, Spi};
+use Call::{Ack, Port, Ppi, Raised};
 
 /// Whether the call answers as it is to.
 fn is_met(lines: &mut Lines, call: &Call) -> bool {
     match *call {
-        Spi(spi) => lines.raise_spi(spi),
+        Port(port) => lines.raise_port(port),
         Ppi(core) if core < 8 => lines.raise_ppi(core),
         Raised(core, wanted) => return core < 8 && lines.raised(core) == wanted,
         Ack(core, wanted) => return core < 8 && lines.ack(core) == wanted,
@@ -65,9 +65,9 @@ static IN_ORDER: [(&str, Call); 16] = [
     // shows                                    call
     ("no line at first",                        Raised(0, false)),
     ("none to take",                            Ack(0, None)),
-    ("port 0",                                  Spi(40)),
-    ("port 1",                                  Spi(33)),
-    ("port 1 again, before it is taken",        Spi(33)),
+    ("port 0",                                  Port(0)),
+    ("port 1",                                  Port(1)),
+    ("port 1 again, before it is taken",        Port(1)),
     ("the timer",                               Ppi(0)),
     ("for core 0",                              Raised(0, true)),
     ("for core 0 alone",                        Raised(1, false)),
@@ -76,7 +76,7 @@ static IN_ORDER: [(&str, Call); 16] = [
     ("each once",                               Ack(0, Some(40))),
     ("no more",                                 Ack(0, None)),
     ("none is left",                            Raised(0, false)),
-    ("port 1 once more",                        Spi(33)),
+    ("port 1 once more",                        Port(1)),
     ("it is taken again",                       Ack(0, Some(33))),
     ("and only once",                           Ack(0, None)),
 ];
@@ -100,8 +100,8 @@ static BY_CORE: [(&str, Call); 24] = [
     ("that of core 7",                          Ack(7, Some(27))),
     ("core 7 has none left",                    Raised(7, false)),
     ("that of core 2 stays",                    Raised(2, true)),
-    ("port 3",                                  Spi(94)),
-    ("port 2",                                  Spi(32)),
+    ("port 3",                                  Port(3)),
+    ("port 2",                                  Port(2)),
     ("a core of its VM sees it",                Raised(1, true)),
     ("a core of another VM doesn't",            Raised(0, false)),
     ("nor takes it",                            Ack(0, None)),
@@ -110,7 +110,7 @@ static BY_CORE: [(&str, Call); 24] = [
     ("the other port's line",                   Ack(2, Some(94))),
     ("none is left for core 1",                 Raised(1, false)),
     ("none is left for core 2",                 Raised(2, false)),
-    ("a port of no VM",                         Spi(95)),
+    ("a port of no VM",                         Port(15)),
     ("none for core 0",                         Raised(0, false)),
     ("none for core 1",                         Raised(1, false)),
     ("none to take for core 2",                 Ack(2, None)),

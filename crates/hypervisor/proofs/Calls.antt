@@ -65,7 +65,7 @@ one_more_power cores items powers own n d x same low room power before core less
         set_get_other own n core x other ∙ before core (let b : core < n = grind (arith, nat_tests) in b)
 
 -- each VM's interrupts are for at least one core
-counted : (tables : List Interrupts) (v : ℕ) → get_or (core_counts tables) v 0 ≡ (tables_of tables v).cores
+pub counted : (tables : List Interrupts) (v : ℕ) → get_or (core_counts tables) v 0 ≡ (tables_of tables v).cores
 counted [] v = refl
 counted (table ∷ tables) zero = refl
 counted (table ∷ tables) (suc v) = counted tables v

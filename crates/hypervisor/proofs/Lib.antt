@@ -4,3 +4,9 @@ pub mod Refines
 pub mod Packs
 pub mod Models
 pub mod Calls
+pub mod Seats
+pub mod Held
+pub mod Moves
+pub mod RaisedMasks
+pub mod Raised
+pub mod RaisedTaken

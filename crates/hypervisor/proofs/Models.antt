@@ -1,4 +1,4 @@
--- What an event does on the machine is what it does in the model.
+-- What holds of a board that belongs to a configuration, and of what the hypervisor does.
 use Rattle.std.proofs.Common.{◌≡◌, ℕ, ◌<◌, Bool, true, false, List, [], ◌∷◌, map, length, length-set, refl, sym, subst, ap, ◌∙◌, arith}
 use Rattle.std.specs.Prelude.{IsTrue, if◌then◌else◌, ◌&&◌, ◌||◌, ◌==◌, not, Option, slice_get, slice_index, slice_set}
 use Rattle.std.specs.List.{enumerate_from, list_any}
@@ -16,28 +16,22 @@ use Rattle.bao_wellformed.specs.Rules.{devs_without_port, names_a_port}
 use Rattle.bao_wellformed.specs.WellFormed.{IsWellFormed}
 use Rattle.bao_wellformed.proofs.Empty.{any_got, indexed_got, map_empty, none_in_each, none_passes}
 use Rattle.bao_wellformed.proofs.Kept.{kept}
-use Rattle.board.specs.Attempt.{Effect}
-use Rattle.board.specs.Machine.{Machine, step_attempt, stepped, written}
-use Rattle.board.specs.Ports.{all_accessed}
+use Rattle.board.specs.Machine.{Machine}
 use Rattle.hypercalls.specs.Calls.{answer_of}
 use Rattle.hypercalls.specs.declared.outcome.Outcome as calls
 use Rattle.hypercalls.specs.declared.outcome.Outcome.TheVariants as call
 use Rattle.hypercalls.specs.declared.power.Power.{Power}
 use Rattle.hypercalls.specs.declared.power.Power.TheVariants.{On, Off, Parked}
-use Rattle.vm_model.specs.Duty.{Duty, Nothing, Park, Call, NotBuilt, all_off, carried, cores_of, done, duty_of, is_not_built, with_answer}
-use Rattle.vm_model.specs.Flat.{Flat, FlatEvent, Step, runs, flat_attempt, flat_duty, flat_stepped, flat_step, is_event_unbuilt}
-use Rattle.vm_model.specs.Guests.{Guests, tables_of}
-use Rattle.vm_model.specs.Project.{project}
-use Rattle.hypervisor.specs.Event.{flat_event, is_assigned, IsOnBoard, IsPlaced}
-use Rattle.hypervisor.specs.Hyp.{HypData, stands_for}
+use Rattle.vm_model.specs.Duty.{Duty, Nothing, Park, Call, NotBuilt, all_off, carried, cores_of, done, with_answer}
+use Rattle.vm_model.specs.Guests.{Guests}
+use Rattle.hypervisor.specs.Hyp.{HypData}
 use Rattle.hypervisor.specs.Packed.{ArePacked}
 use Rattle.hypervisor.specs.Shape.{core_place, port_spot, shape_of}
-use Rattle.hypervisor.specs.Taken.{guests_of, is_built, is_exit_unbuilt, ran_guests, step_exit, told_by, with_cores, IsAfter, IsLeft, IsSteppedIf}
+use Rattle.hypervisor.specs.Event.{is_assigned, IsOnBoard, IsPlaced}
 use Rattle.hypervisor.specs.Tidy.{Tidy}
 use Rattle.hypervisor.specs.declared.event.Event.{Event}
 use Rattle.hypervisor.specs.declared.event.Event.TheVariants as event
 use Rattle.hypervisor.proofs.Packs.{are_packed}
-use Rattle.hypervisor.proofs.Refines.{steps_alike, told_back}
 
 -- the board of a configuration has the cores of the platform
 pub core_count : (cfg : ConfigData) (events : ℕ) → length (shape_of cfg events).cores ≡ length cfg.platform.cores
@@ -52,87 +46,9 @@ core_on_board cfg m core shaped low =
     let cores : length m.shape.cores ≡ length cfg.platform.cores = ap (λ (s : ShapeData). length s.cores) shaped ∙ core_count cfg m.shape.events in
     omega (arith, cores, low)
 
--- what an event left, and what it answered, is what the model's step leaves and answers
-pub record IsModels (cfg : ConfigData) (old new : HypData) (before after : Machine) (e : FlatEvent) (answer : Bool) : Type 0 where
-  pub state : stands_for new after ≡ flat_step cfg (stands_for old before) e
-  pub built : answer ≡ not (is_event_unbuilt cfg (stands_for old before) e)
-
-module _ (cfg : ConfigData) (old : HypData) (before : Machine) (tidy : Tidy cfg old before) (well_formed : IsWellFormed cfg)
-    (fits : ConfigFits cfg) where
-  -- each core's entries realise its map
-  pub tidy_packed : ArePacked cfg before.entries
-  tidy_packed = subst (ArePacked cfg) (sym tidy.entries) (are_packed cfg well_formed fits)
-
-  module _ (core count : ℕ) (low : core < length cfg.platform.cores) where
-    abbrev f : Flat
-    f = stands_for old before
-
-    tried_alike : step_attempt before core count ≡ flat_attempt cfg f core count
-    tried_alike = steps_alike cfg before old.powers (tables_of old.tables) core count (tidy_packed.realised core low) tidy.shape
-
-    -- what the hypervisor works on after a step that did this
-    abbrev worked_on : Effect → Guests
-    worked_on e = record { cores = slice_set before.cores core e.core; powers = old.powers; tables = tables_of old.tables }
-
-    duty_alike : duty_of cfg core (told_by (step_exit before core count)) (guests_of old (stepped before core count)) ≡ flat_duty cfg f core count
-    duty_alike =
-        ap (λ outcome. duty_of cfg core outcome (worked_on (step_attempt before core count))) (told_back (step_attempt before core count).outcome)
-        ∙ ap (λ (e : Effect). duty_of cfg core e.outcome (worked_on e)) tried_alike
-
-    guests_alike : ran_guests cfg old before core count ≡ done cfg core (flat_duty cfg f core count) (worked_on (flat_attempt cfg f core count))
-    guests_alike =
-        ap (λ duty. done cfg core duty (worked_on (step_attempt before core count))) duty_alike
-        ∙ ap (λ (e : Effect). done cfg core (flat_duty cfg f core count) (worked_on e)) tried_alike
-
-    -- the flat machine of what a step left
-    abbrev left_by : Effect → Guests → Flat
-    left_by e guests =
-        record {
-          bytes = written e.stored before.bytes;
-          cores = guests.cores;
-          powers = guests.powers;
-          tables = guests.tables;
-          ports = all_accessed e.touched before.ports;
-          count = count;
-        }
-
-    left_alike : (new : HypData) (after : Machine)
-        → IsLeft old new (stepped before core count) after (ran_guests cfg old before core count)
-        → stands_for new after ≡ flat_stepped cfg f core count
-    left_alike new after left =
-        ap (λ m. project new.powers (tables_of new.tables) m) left.state
-        ∙ ap (λ powers. project powers (tables_of new.tables) (with_cores (stepped before core count) (ran_guests cfg old before core count).cores)) left.powers
-        ∙ ap (λ tables. project (ran_guests cfg old before core count).powers tables
-        (with_cores (stepped before core count) (ran_guests cfg old before core count).cores)) left.tables
-        ∙ ap (left_by (step_attempt before core count)) guests_alike
-        ∙ ap (λ e. left_by e (done cfg core (flat_duty cfg f core count) (worked_on (flat_attempt cfg f core count)))) tried_alike
-
-    by_run : (new : HypData) (after : Machine) (running : Bool) → runs cfg f core ≡ running
-        → IsSteppedIf running cfg (record { old = old; new = new; before = before; after = after }) core count
-        → IsModels cfg old new before after (Step core count)
-        (not (running && is_exit_unbuilt cfg core (step_exit before core count) (guests_of old (stepped before core count))))
-    by_run new after true runs_now left = record {
-      state = left_alike new after left ∙ sym (ap (λ r. if r then flat_stepped cfg f core count else f) runs_now);
-      built =
-          ap (λ duty. not (is_not_built duty)) duty_alike
-          ∙ sym (ap (λ r. not (r && is_not_built (flat_duty cfg f core count))) runs_now);
-    }
-    by_run new after false waits stays = record {
-      state =
-          ap (λ (hyp : HypData). stands_for hyp after) stays.hyp ∙ ap (stands_for old) stays.board
-          ∙ sym (ap (λ r. if r then flat_stepped cfg f core count else f) waits);
-      built = sym (ap (λ r. not (r && is_not_built (flat_duty cfg f core count))) waits);
-    }
-
-  pub models : (new : HypData) (after : Machine) (e : Event) → IsPlaced cfg e → IsAfter cfg (record { old = old; new = new; before = before; after = after }) e
-      → IsModels cfg old new before after (flat_event e) (is_built cfg old before e)
-  models new after (event.Step core count) placed left =
-      let low : core < length cfg.platform.cores = grind (arith, nat_tests) in
-      by_run core count low new after (runs cfg (stands_for old before) core) refl left
-  models new after (event.Input port byte) placed given = record {
-    state = ap (λ (hyp : HypData). stands_for hyp after) given.hyp ∙ ap (stands_for old) given.board;
-    built = refl;
-  }
+-- each core's entries realise its map
+pub tidy_packed : (cfg : ConfigData) (hyp : HypData) (m : Machine) → Tidy cfg hyp m → IsWellFormed cfg → ConfigFits cfg → ArePacked cfg m.entries
+tidy_packed cfg hyp m tidy well_formed fits = subst (ArePacked cfg) (sym tidy.entries) (are_packed cfg well_formed fits)
 
 -- the numbers of the board's ports are those of the platform's
 numbers_alike : (cfg : ConfigData) (ports : List PortPlace) (number : ℕ)
@@ -185,31 +101,3 @@ module _ (cfg : ConfigData) (core : ℕ) (guests : Guests) where
   done_length (Park esr far) = length-set guests.powers core (Parked esr far)
   done_length (Call v smc outcome) = carried_length v (cores_of (slice_get cfg.vms v)) smc (answer_of outcome) outcome
   done_length NotBuilt = refl
-
--- hypervisor and board belong to the configuration after an event
-module _ (cfg : ConfigData) (old new : HypData) (before after : Machine) (tidy : Tidy cfg old before) where
-  stepped_tidy : (core count : ℕ) (running : Bool)
-      → IsSteppedIf running cfg (record { old = old; new = new; before = before; after = after }) core count
-      → Tidy cfg new after
-  stepped_tidy core count true left = record {
-    fitted = ap (λ (m : Machine). m.fitted) left.state ∙ tidy.fitted;
-    shape =
-        ap (λ (m : Machine). m.shape) left.state ∙ tidy.shape
-        ∙ ap (shape_of cfg) (sym (ap (λ (m : Machine). m.shape.events) left.state));
-    entries = ap (λ (m : Machine). m.entries) left.state ∙ tidy.entries;
-    powers =
-        ap (λ (ps : List Power). length ps) left.powers
-        ∙ done_length cfg core (guests_of old (stepped before core count))
-        (duty_of cfg core (told_by (step_exit before core count)) (guests_of old (stepped before core count)))
-        ∙ tidy.powers;
-    tables = left.counts ∙ tidy.tables;
-  }
-  stepped_tidy core count false stays =
-      subst (λ (hyp : HypData). Tidy cfg hyp after) (sym stays.hyp) (subst (Tidy cfg old) (sym stays.board) tidy)
-
-  pub after_tidy : (e : Event) → IsAfter cfg (record { old = old; new = new; before = before; after = after }) e → Tidy cfg new after
-  after_tidy (event.Step core count) left = stepped_tidy core count (runs cfg (stands_for old before) core) left
-  after_tidy (event.Input port byte) given =
-      subst (λ (hyp : HypData). Tidy cfg hyp after) (sym given.hyp)
-      (subst (Tidy cfg old) (sym given.board)
-      (record { fitted = tidy.fitted; shape = tidy.shape; entries = tidy.entries; powers = tidy.powers; tables = tidy.tables }))

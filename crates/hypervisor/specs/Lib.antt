@@ -2,6 +2,8 @@ pub mod Shape
 pub mod Packed
 pub mod Event
 pub mod Hyp
+pub mod Seat
+pub mod Again
 pub mod Tidy
 pub mod Steps
 pub mod Taken

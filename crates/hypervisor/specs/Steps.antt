@@ -2,18 +2,21 @@
 use Rattle.std.specs.Prelude.{◌≡◌, ℕ, List}
 use Rattle.bao_config.specs.Data.{ConfigData}
 use Rattle.bao_wellformed.specs.Map.{class_of}
-use Rattle.board.specs.Machine.{Machine, entries_at, step_attempt}
+use Rattle.board.specs.Machine.{Machine, entries_at, lists_at, machine_effect}
+use Rattle.vgic_iface.specs.Interface.{best_listed}
 use Rattle.hypercalls.specs.declared.power.Power.{Power}
-use Rattle.vm_model.specs.Flat.{flat_attempt}
+use Rattle.vm_model.specs.Flat.{flat_effect}
+use Rattle.vm_model.specs.Interrupts.{best_of}
 use Rattle.vm_model.specs.Guests.{Tables}
-use Rattle.vm_model.specs.Project.{project}
+use Rattle.vm_model.specs.Project.{joined_tables, project}
 use Rattle.hypervisor.specs.Shape.{shape_of}
 use Rattle.mpu_packer.specs.Packing.{Realises}
 
--- for every configuration: where a board has its shape, and the entries of a core realise its map, a step of the core does on the
--- board what it does in the model
+-- For every configuration: where a board has its shape, the entries of a core realise its map, and the best interrupt of the core
+-- stands in its list registers, a step of the core for which no line is raised does on the board what it does in the model.
 abbrev pub StepsAlike : Type 0
 StepsAlike =
-    (cfg : ConfigData) (m : Machine) (powers : List Power) (tables : Tables) (core now : ℕ)
+    (cfg : ConfigData) (m : Machine) (powers : List Power) (tables : Tables) (core count : ℕ)
     → Realises (entries_at m.entries core) (class_of cfg core) → m.shape ≡ shape_of cfg m.shape.events
-    → step_attempt m core now ≡ flat_attempt cfg (project powers tables m) core now
+    → best_of cfg (joined_tables cfg m.lists tables) core ≡ best_listed (lists_at m.lists core)
+    → machine_effect m core count ≡ flat_effect cfg (project cfg powers tables m) core count

@@ -1,92 +1,156 @@
 -- For private clauses: what an event does on the machine, and to what the hypervisor keeps.
-use Rattle.std.specs.Prelude.{◌≡◌, ℕ, ◌&&◌, not, Bool, true, false, List}
+use Rattle.std.specs.Prelude.{◌≡◌, ℕ, ◌<◌, not, Bool, true, false, List, Option, None, Some, slice_get}
+use Rattle.bao_types.specs.ListReg.{ListRegData}
 use Rattle.a64_state.specs.Core.{CoreData}
 use Rattle.bao_config.specs.Data.{ConfigData}
-use Rattle.board.specs.Attempt.{Outcome, Ran, Leave, Unbuilt}
+use Rattle.board.specs.Attempt.{Outcome, Ran, Leave}
 use Rattle.board.specs.declared.board.Exit.{Exit}
 use Rattle.board.specs.declared.board.Exit.TheVariants as exit
-use Rattle.board.specs.Machine.{Machine, exit_of, port_given, step_attempt, stepped}
+use Rattle.board.specs.Interrupts.{is_raised}
+use Rattle.board.specs.Machine.{Machine, carried_out, exit_after, lists_at, machine_effect, port_given}
+use Rattle.vgic_iface.specs.Interface.{best_listed}
+use Rattle.vgic_iface.specs.Rank.{id_end}
+use Rattle.vgic_table.specs.Interrupts.{Interrupts}
+use Rattle.vgic_table.specs.Changes.{made_inactive, made_pending}
 use Rattle.vm_model.specs.Duty.{done, duty_of, is_not_built}
-use Rattle.vm_model.specs.Flat.{runs}
+use Rattle.vm_model.specs.Flat.{flat_forwarded, flat_ready, runs}
 use Rattle.vm_model.specs.Guests.{Guests, tables_of}
+use Rattle.vm_model.specs.Interrupts.{best_of, with_table}
+use Rattle.vm_model.specs.Project.{joined_tables}
 use Rattle.hypervisor.specs.Hyp.{HypData, stands_for}
-use Rattle.hypervisor.specs.Tidy.{core_counts}
+use Rattle.hypervisor.specs.declared.seat.Seat.{Seat}
+use Rattle.hypervisor.specs.Seat.{IsSeatOf, line_of}
+use Rattle.hypervisor.specs.Tidy.{AreHeld, Tidy}
 use Rattle.hypervisor.specs.declared.event.Event.{Event}
 use Rattle.hypervisor.specs.declared.event.Event.TheVariants.{Step, Input}
 
--- how the next step of a core ends on the machine
-abbrev pub step_exit : Machine → ℕ → ℕ → Exit
-step_exit m core count = exit_of (step_attempt m core count).outcome
-
--- what a step came to that ended so
-abbrev pub told_by : Exit → Outcome
-told_by exit.Ran = Ran
-told_by (exit.Sync esr far) = Leave esr far
-told_by exit.Unbuilt = Unbuilt
-
 -- what the hypervisor works on, of the hypervisor and of a board
-abbrev pub guests_of : HypData → Machine → Guests
-guests_of hyp m = record { cores = m.cores; powers = hyp.powers; tables = tables_of hyp.tables }
+abbrev pub guests_of : ConfigData → HypData → Machine → Guests
+guests_of cfg hyp m =
+    record { cores = m.cores; powers = hyp.powers; tables = joined_tables cfg m.lists (tables_of hyp.tables) }
 
 -- the board has these cores
 abbrev pub with_cores : Machine → List CoreData → Machine
 with_cores m cores = record m { cores = cores }
 
--- hypervisor and board have what the hypervisor works on, and as many tables as before, for as many cores
-pub record IsLeft (old new : HypData) (before after : Machine) (guests : Guests) : Type 0 where
-  pub state : after ≡ with_cores before guests.cores
-  pub powers : new.powers ≡ guests.powers
-  pub tables : tables_of new.tables ≡ guests.tables
-  pub counts : core_counts new.tables ≡ core_counts old.tables
+-- and these list registers
+abbrev pub with_registers : Machine → List CoreData → List (List ListRegData) → Machine
+with_registers m cores lists = record m { cores = cores; lists = lists }
 
--- what a step of a core that ended so leaves to do is done
-abbrev pub settled : ConfigData → ℕ → Exit → Guests → Guests
-settled cfg core ended guests = done cfg core (duty_of cfg core (told_by ended) guests) guests
-
-abbrev pub is_exit_unbuilt : ConfigData → ℕ → Exit → Guests → Bool
-is_exit_unbuilt cfg core ended guests = is_not_built (duty_of cfg core (told_by ended) guests)
-
--- after a step of a core that runs, at a count
-abbrev pub ran_guests : ConfigData → HypData → Machine → ℕ → ℕ → Guests
-ran_guests cfg hyp m core count = settled cfg core (step_exit m core count) (guests_of hyp (stepped m core count))
-
--- a hypervisor and a board before an event and after it
+-- a hypervisor and a board before an event, or a part of one, and after it
 pub record Change : Type 0 where
   pub old : HypData
   pub new : HypData
   pub before : Machine
   pub after : Machine
 
+-- Hypervisor and board have what the hypervisor works on, and hold the interrupts as before. Of the board nothing else has changed.
+pub record IsLeft (cfg : ConfigData) (change : Change) (guests : Guests) : Type 0 where
+  pub state : change.after ≡ with_registers change.before guests.cores change.after.lists
+  pub powers : change.new.powers ≡ guests.powers
+  pub tables : joined_tables cfg change.after.lists (tables_of change.new.tables) ≡ guests.tables
+  pub held : AreHeld cfg change.new.tables change.after.lists
+
 -- nothing has changed
 pub record IsSame (change : Change) : Type 0 where
   pub hyp : change.new ≡ change.old
   pub board : change.after ≡ change.before
 
--- what a step of a core at a count left, if it runs; one that doesn't run does nothing
-abbrev pub IsSteppedIf : Bool → ConfigData → Change → ℕ → ℕ → Type 0
-IsSteppedIf true cfg change core count =
-    IsLeft change.old change.new (stepped change.before core count) change.after (ran_guests cfg change.old change.before core count)
-IsSteppedIf false cfg change core count = IsSame change
+-- The lines that were raised for a core have been forwarded, and none is left. Cores and all else are as before.
+pub record IsForwarded (cfg : ConfigData) (core : ℕ) (change : Change) : Type 0 where
+  pub tidy : Tidy cfg change.new change.after
+  pub state : stands_for cfg change.new change.after ≡ flat_forwarded cfg (stands_for cfg change.old change.before) core
+  pub quiet : is_raised change.after.lines core ≡ false
+  pub board :
+      change.after ≡ record change.before { lists = change.after.lists; lines = change.after.lines }
 
-abbrev pub IsStepped : ConfigData → Change → ℕ → ℕ → Type 0
-IsStepped cfg change core count = IsSteppedIf (runs cfg (stands_for change.old change.before) core) cfg change core count
+-- the best interrupt of a core stands in its list registers
+abbrev pub IsListed : ConfigData → HypData → Machine → ℕ → Type 0
+IsListed cfg hyp m core =
+    best_of cfg (joined_tables cfg m.lists (tables_of hyp.tables)) core ≡ best_listed (lists_at m.lists core)
+
+-- A core that runs has taken a step at a count, from a state in which no line is raised for it and its best interrupt is listed.
+-- That state stands for the model's before the step, and the step has ended so.
+pub record IsEntered (cfg : ConfigData) (change : Change) (core count : ℕ) (ended : Exit) : Type 0 where
+  pub hyp : HypData
+  pub board : Machine
+  pub tidy : Tidy cfg hyp board
+  pub state : stands_for cfg hyp board ≡ flat_ready cfg (stands_for cfg change.old change.before) core count
+  pub quiet : is_raised board.lines core ≡ false
+  pub listed : IsListed cfg hyp board core
+  pub entered : board.entered ≡ change.before.entered
+  pub spent : board.spent ≡ change.before.spent
+  pub shape : board.shape ≡ change.before.shape
+  pub entries : board.entries ≡ change.before.entries
+  pub new : change.new ≡ hyp
+  pub after : change.after ≡ carried_out board core (machine_effect board core count)
+  pub exit : ended ≡ exit_after board core count
+
+-- an interrupt of a virtual core that stands in none of its list registers has ended
+abbrev pub ended_guests : ℕ → ℕ → ℕ → Guests → Guests
+ended_guests v own id guests = record guests { tables = with_table (Some v) (λ table. made_inactive table own id) guests.tables }
+
+-- an id of a virtual core is pending, where there is one
+abbrev pub pended_for : ℕ → Option ℕ → Interrupts → Interrupts
+pended_for own None table = table
+pended_for own (Some id) table = made_pending table own id
+
+-- the id of a raised line is pending in a VM that has one for it
+abbrev pub line_guests : ConfigData → ℕ → ℕ → ℕ → Guests → Guests
+line_guests cfg v own intid guests =
+    record guests { tables = with_table (Some v) (pended_for own (line_of cfg (slice_get cfg.vms v) intid)) guests.tables }
+
+-- an id that ends is one of a core's
+abbrev pub IsEndOfId : Exit → Type 0
+IsEndOfId exit.Ran = Unit {0}
+IsEndOfId exit.Irq = Unit {0}
+IsEndOfId (exit.Sync esr far) = Unit {0}
+IsEndOfId (exit.End id) = id < id_end
+
+-- what follows how a core's step ended is done
+abbrev pub IsSettled : ConfigData → ℕ → Exit → Change → Type 0
+IsSettled cfg core exit.Ran change = IsSame change
+IsSettled cfg core exit.Irq change = IsSame change
+IsSettled cfg core (exit.Sync esr far) change =
+    let guests : Guests = guests_of cfg change.old change.before in
+    IsLeft cfg change (done cfg core (duty_of cfg core (Leave esr far) guests) guests)
+IsSettled cfg core (exit.End id) change =
+    (seat : Seat) → IsSeatOf cfg core seat → IsLeft cfg change (ended_guests seat.vm seat.own id (guests_of cfg change.old change.before))
+
+-- and isn't built
+abbrev pub is_exit_unbuilt : ConfigData → ℕ → Exit → Guests → Bool
+is_exit_unbuilt cfg core exit.Ran guests = false
+is_exit_unbuilt cfg core exit.Irq guests = false
+is_exit_unbuilt cfg core (exit.Sync esr far) guests = is_not_built (duty_of cfg core (Leave esr far) guests)
+is_exit_unbuilt cfg core (exit.End id) guests = false
+
+-- A core that runs has taken a step and what follows it; one that doesn't run has done nothing. `built` is what is answered.
+pub record IsRun (cfg : ConfigData) (change : Change) (core count : ℕ) (built : Bool) : Type 0 where
+  pub hyp : HypData
+  pub board : Machine
+  pub ended : Exit
+  pub entered : IsEntered cfg (record change { new = hyp; after = board }) core count ended
+  pub settled : IsSettled cfg core ended (record change { old = hyp; before = board })
+  pub built_is : built ≡ not (is_exit_unbuilt cfg core ended (guests_of cfg hyp board))
+
+pub record IsWaiting (change : Change) (built : Bool) : Type 0 where
+  pub same : IsSame change
+  pub built_is : built ≡ true
+
+abbrev pub IsSteppedIf : Bool → ConfigData → Change → ℕ → ℕ → Bool → Type 0
+IsSteppedIf true cfg change core count built = IsRun cfg change core count built
+IsSteppedIf false cfg change core count built = IsWaiting change built
+
+abbrev pub IsStepped : ConfigData → Change → ℕ → ℕ → Bool → Type 0
+IsStepped cfg change core count built =
+    IsSteppedIf (runs cfg (stands_for cfg change.old change.before) core) cfg change core count built
 
 -- a port was given a byte
 pub record IsGiven (change : Change) (port byte : ℕ) : Type 0 where
   pub hyp : change.new ≡ change.old
   pub board : change.after ≡ port_given change.before port byte
 
--- the step does something that isn't built
-abbrev pub is_step_unbuilt : ConfigData → HypData → Machine → ℕ → ℕ → Bool
-is_step_unbuilt cfg hyp m core count =
-    runs cfg (stands_for hyp m) core
-    && is_exit_unbuilt cfg core (step_exit m core count) (guests_of hyp (stepped m core count))
-
--- what an event left, and whether all of that is built
-abbrev pub IsAfter : ConfigData → Change → Event → Type 0
-IsAfter cfg change (Step core count) = IsStepped cfg change core count
-IsAfter cfg change (Input port byte) = IsGiven change port byte
-
-abbrev pub is_built : ConfigData → HypData → Machine → Event → Bool
-is_built cfg hyp m (Step core count) = not (is_step_unbuilt cfg hyp m core count)
-is_built cfg hyp m (Input port byte) = true
+-- what an event left, and what is answered
+abbrev pub IsAfter : ConfigData → Change → Event → Bool → Type 0
+IsAfter cfg change (Step core count) built = IsStepped cfg change core count built
+IsAfter cfg change (Input port byte) built = IsGiven change port byte × (built ≡ true)

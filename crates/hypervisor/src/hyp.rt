@@ -5,23 +5,26 @@ ghost use Rattle.bao_config.specs.Data.{vm_data};
 ghost use Rattle.bao_wellformed.specs.Checked.{checked_data};
 ghost use Rattle.bao_wellformed.specs.Map.{owner};
 ghost use Rattle.bao_wellformed.specs.WellFormed.{IsWellFormed};
-ghost use Rattle.board.specs.Machine.{core_at, core_started, with_core};
+ghost use Rattle.board.specs.Machine.{core_at, lists_at, restarted, with_core};
 ghost use Rattle.hypercalls.specs.Laws.{IsLawful};
 ghost use Rattle.shared_windows.specs.Windows.{irq_of, is_member};
 ghost use Rattle.vgic_table.specs.Interrupts.{quiet_interrupts};
-ghost use Rattle.vgic_table.specs.Changes.{made_pending};
+ghost use Rattle.vgic_table.specs.Registers.{joined};
 ghost use Rattle.vm_model.specs.Boot.{boot_power, boot_powers};
-ghost use Rattle.vm_model.specs.Duty.{all_off, answered, arguments, call_duty, call_outcome, carried, cores_of, done, pended, place_of, powers_of, rung};
+ghost use Rattle.vm_model.specs.Duty.{all_off, answered, arguments, call_duty, call_outcome, carried, cores_of, done, pended, powers_of, rung};
+ghost use Rattle.vm_model.specs.Interrupts.{with_table};
 ghost use Rattle.vm_model.specs.Flat.{flat_step, is_entered, is_event_unbuilt, is_on};
 ghost use Rattle.vm_model.specs.Guests.{tables_of};
 ghost use Rattle.hypervisor.specs.Event.{flat_event, IsOnBoard, IsPlaced};
 ghost use Rattle.hypervisor.specs.Hyp.{boot_tables, power_of, stands_for};
-ghost use Rattle.hypervisor.specs.Tidy.{Tidy, core_counts};
-ghost use Rattle.hypervisor.specs.Taken.{guests_of, is_built, is_exit_unbuilt, is_step_unbuilt, settled, IsAfter, IsLeft, IsStepped};
+ghost use Rattle.hypervisor.specs.Tidy.{Tidy};
+ghost use Rattle.hypervisor.specs.Seat.{IsSeat, IsSeatOf};
+ghost use Rattle.hypervisor.specs.Taken.{guests_of, is_exit_unbuilt, IsAfter, IsEndOfId, IsEntered, IsLeft, IsSettled, IsStepped};
 ghost use Rattle.vm_model.specs.Park.{parks};
 
 use crate::event::Event;
-use crate::owners::{owner, place, virtual_core, vm_at};
+use crate::owners::{owner, virtual_core, vm_at};
+use crate::seat::{Seat, seat_at, seat_of};
 use crate::park::{immediate, is_call, is_smc, parks};
 use arrayvec::ArrayVec;
 use bao_config::{Config, Vm};
@@ -37,8 +40,8 @@ use vgic_table::IrqTable;
 pub struct Hyp {
     /// By the physical core that the virtual one runs on.
     powers: ArrayVec<Power, 8>,
-    /// By the VM's place.
-    tables: ArrayVec<IrqTable, 8>,
+    /// By the VM's place. Interrupts that stand in list registers aren't in them.
+    pub(crate) tables: ArrayVec<IrqTable, 8>,
 }
 
 impl Model for Hyp {
@@ -60,7 +63,7 @@ impl Hyp {
         }
     }
 
-    /// The interrupts of the VM at a place.
+    /// The interrupts of the VM at a place, but for those that stand in list registers.
     pub fn table(&self, vm: u8) -> &IrqTable
         requires { vm < length self.now.tables }
         ensures { Some result.now ≡ slice_get self.now.tables vm }
@@ -92,11 +95,11 @@ impl Hyp {
         requires placed { IsPlaced (checked_data checked.now) event.now }
         requires spent { (B.state board.old).spent < (B.state board.old).shape.events }
         ensures tidy { Tidy (checked_data checked.now) self.new (B.state board.new) }
-        ensures state { let f = stands_for self.old (B.state board.old) in
-            stands_for self.new (B.state board.new) ≡ flat_step (checked_data checked.now) f (flat_event event.now) }
-        ensures built { let f = stands_for self.old (B.state board.old) in
+        ensures state { let f = stands_for (checked_data checked.now) self.old (B.state board.old) in
+            stands_for (checked_data checked.now) self.new (B.state board.new) ≡ flat_step (checked_data checked.now) f (flat_event event.now) }
+        ensures built { let f = stands_for (checked_data checked.now) self.old (B.state board.old) in
             result ≡ not (is_event_unbuilt (checked_data checked.now) f (flat_event event.now)) }
-        ensures entered { let f = stands_for self.old (B.state board.old) in
+        ensures entered { let f = stands_for (checked_data checked.now) self.old (B.state board.old) in
             (B.state board.new).entered
             ≡ (B.state board.old).entered + (if is_entered (checked_data checked.now) f (flat_event event.now) then 1 else 0) }
         ensures spent { (B.state board.new).spent ≤ (B.state board.old).spent + 1 }
@@ -112,9 +115,8 @@ impl Hyp {
         requires tidy { Tidy (config_data config.now) self.old (B.state board.old) }
         requires placed { IsPlaced (config_data config.now) event.now }
         requires spent { (B.state board.old).spent < (B.state board.old).shape.events }
-        ensures after { IsAfter (config_data config.now)
-            (record { old = self.old; new = self.new; before = B.state board.old; after = B.state board.new }) event.now }
-        ensures built { result ≡ is_built (config_data config.now) self.old (B.state board.old) event.now }
+        ensures { IsAfter (config_data config.now)
+            (record { old = self.old; new = self.new; before = B.state board.old; after = B.state board.new }) event.now result }
     {
         match *event {
             Event::Step { core, count } => self.step(config, board, core, count),
@@ -132,33 +134,61 @@ impl Hyp {
         requires core { core < length (config_data config.now).platform.cores }
         requires spent { (B.state board.old).spent < (B.state board.old).shape.events }
         ensures after { IsStepped (config_data config.now)
-            (record { old = self.old; new = self.new; before = B.state board.old; after = B.state board.new }) core count }
-        ensures built { result ≡ not (is_step_unbuilt (config_data config.now) self.old (B.state board.old) core count) }
+            (record { old = self.old; new = self.new; before = B.state board.old; after = B.state board.new }) core count result }
     {
-        if !self.runs(config, core) {
+        let Some(seat) = seat_of(config, core) else {
+            return true;
+        };
+        if !self.is_on(core) {
             return true;
         }
-        let exit = board.step(core, count);
-        self.settle(config, board, core, exit)
+        let exit = self.enter(config, board, seat, count);
+        self.settle(config, board, seat, exit)
+    }
+
+    /// Lets a core that runs take a step at a count. The lines that are raised for it are forwarded first, and its best
+    /// interrupt stands in a list register before it enters.
+    fn enter<B: Board>(&mut self, config: &Config, board: &mut B, seat: Seat, count: u64) -> Exit
+        requires well_formed { IsWellFormed (config_data config.now) }
+        requires tidy { Tidy (config_data config.now) self.old (B.state board.old) }
+        requires seat { IsSeatOf (config_data config.now) seat.core seat }
+        requires spent { (B.state board.old).spent < (B.state board.old).shape.events }
+        ensures { IsEntered (config_data config.now)
+            (record { old = self.old; new = self.new; before = B.state board.old; after = B.state board.new }) seat.core count result }
+    {
+        self.refill(board, seat);
+        match board.step(seat.core, count) {
+            Exit::Irq => {}
+            exit @ (Exit::Ran | Exit::Sync { .. } | Exit::End { .. }) => return exit,
+        }
+        self.forward(config, board, seat);
+        self.refill(board, seat);
+        board.step(seat.core, count)
     }
 
     /// Does what follows how a core's step ended, and answers whether that is built.
-    fn settle<B: Board>(&mut self, config: &Config, board: &mut B, core: u8, exit: Exit) -> bool
+    fn settle<B: Board>(&mut self, config: &Config, board: &mut B, seat: Seat, exit: Exit) -> bool
         requires well_formed { IsWellFormed (config_data config.now) }
         requires tidy { Tidy (config_data config.now) self.old (B.state board.old) }
-        requires core { core < length (config_data config.now).platform.cores }
-        ensures left { IsLeft self.old self.new (B.state board.old) (B.state board.new)
-            (settled (config_data config.now) core exit (guests_of self.old (B.state board.old))) }
-        ensures built { result ≡ not (is_exit_unbuilt (config_data config.now) core exit (guests_of self.old (B.state board.old))) }
+        requires seat { IsSeatOf (config_data config.now) seat.core seat }
+        requires id { IsEndOfId exit }
+        ensures settled { IsSettled (config_data config.now) seat.core exit
+            (record { old = self.old; new = self.new; before = B.state board.old; after = B.state board.new }) }
+        ensures built { result ≡ not (is_exit_unbuilt (config_data config.now) seat.core exit
+            (guests_of (config_data config.now) self.old (B.state board.old))) }
     {
         match exit {
-            Exit::Ran => true,
-            Exit::Sync { esr, .. } if is_call(esr) => {
-                self.call(config, board, core, esr);
+            // A step ends by a line only where one is raised, and none is left.
+            Exit::Ran | Exit::Irq => true,
+            Exit::End { id } => {
+                self.end(config, board, seat, id);
                 true
             }
-            Exit::Sync { esr, far } => self.park(config, core, esr, far),
-            Exit::Unbuilt => false,
+            Exit::Sync { esr, .. } if is_call(esr) => {
+                self.call(config, board, seat, esr);
+                true
+            }
+            Exit::Sync { esr, far } => self.park(config, seat.core, esr, far),
         }
     }
 
@@ -177,21 +207,17 @@ impl Hyp {
     }
 
     /// Answers a call of a core, and carries out what comes of it.
-    fn call<B: Board>(&mut self, config: &Config, board: &mut B, core: u8, esr: u64)
+    fn call<B: Board>(&mut self, config: &Config, board: &mut B, seat: Seat, esr: u64)
         requires well_formed { IsWellFormed (config_data config.now) }
         requires tidy { Tidy (config_data config.now) self.old (B.state board.old) }
-        requires core { core < length (config_data config.now).platform.cores }
-        ensures { IsLeft self.old self.new (B.state board.old) (B.state board.new)
-            (done (config_data config.now) core
-            (call_duty (config_data config.now) (place_of (config_data config.now) core) core esr (guests_of self.old (B.state board.old)))
-            (guests_of self.old (B.state board.old))) }
+        requires seat { IsSeatOf (config_data config.now) seat.core seat }
+        ensures { let guests = guests_of (config_data config.now) self.old (B.state board.old) in
+            IsLeft (config_data config.now) (record { old = self.old; new = self.new; before = B.state board.old; after = B.state board.new })
+            (done (config_data config.now) seat.core (call_duty (config_data config.now) (Some seat.vm) seat.core esr guests) guests) }
     {
-        let Some(vm) = place(config, core) else {
-            return;
-        };
-        let outcome = self.outcome(config, board, vm, core, esr);
-        answer(board, core, is_smc(esr), outcome.answer());
-        self.carry_out(config, board, vm, core, outcome);
+        let outcome = self.outcome(config, board, seat.vm, seat.core, esr);
+        answer(board, seat.core, is_smc(esr), outcome.answer());
+        self.carry_out(config, board, seat, outcome);
     }
 
     /// What comes of a call of a core of the VM at a place.
@@ -199,7 +225,7 @@ impl Hyp {
         requires fitted { (B.state board.now).fitted ≡ true }
         requires vm { vm < length (config_data config.now).vms }
         requires core { core < length (B.state board.now).shape.cores }
-        ensures { result ≡ call_outcome (config_data config.now) vm core esr (guests_of self.now (B.state board.now)) }
+        ensures { result ≡ call_outcome (config_data config.now) vm core esr (guests_of (config_data config.now) self.now (B.state board.now)) }
     {
         if immediate(esr) != 0 {
             return Outcome::Answer(NOT_SUPPORTED);
@@ -220,51 +246,44 @@ impl Hyp {
         own
     }
 
-    /// Carries out what comes of a call of a core of the VM at a place.
-    fn carry_out<B: Board>(
-        &mut self,
-        config: &Config,
-        board: &mut B,
-        vm: u8,
-        core: u8,
-        outcome: Outcome,
-    )
+    /// Carries out what comes of a call of a core.
+    fn carry_out<B: Board>(&mut self, config: &Config, board: &mut B, seat: Seat, outcome: Outcome)
         requires well_formed { IsWellFormed (config_data config.now) }
         requires tidy { Tidy (config_data config.now) self.old (B.state board.old) }
-        requires vm { vm < length (config_data config.now).vms }
-        requires core { core < length (config_data config.now).platform.cores }
-        requires lawful { IsLawful (config_data config.now) vm
-            (powers_of (cores_of (slice_get (config_data config.now).vms vm)) self.old.powers) outcome }
-        ensures { IsLeft self.old self.new (B.state board.old) (B.state board.new)
-            (carried (config_data config.now) vm (cores_of (slice_get (config_data config.now).vms vm)) core outcome
-            (guests_of self.old (B.state board.old))) }
+        requires seat { IsSeat (config_data config.now) seat }
+        requires lawful { IsLawful (config_data config.now) seat.vm
+            (powers_of (cores_of (slice_get (config_data config.now).vms seat.vm)) self.old.powers) outcome }
+        ensures { IsLeft (config_data config.now) (record { old = self.old; new = self.new; before = B.state board.old; after = B.state board.new })
+            (carried (config_data config.now) seat.vm (cores_of (slice_get (config_data config.now).vms seat.vm)) seat.core outcome
+            (guests_of (config_data config.now) self.old (B.state board.old))) }
     {
         match outcome {
             Outcome::Answer(_) => {}
-            Outcome::Ring { shmem, event } => self.ring(config, vm, shmem, event),
-            Outcome::Off => self.set_power(core, Power::Off),
+            Outcome::Ring { shmem, event } => self.ring(config, board, seat.vm, shmem, event),
+            Outcome::Off => self.set_power(seat.core, Power::Off),
             Outcome::On {
                 core: own,
                 start,
                 arg,
-            } => self.turn_on(vm_at(config, vm), board, own, start, arg),
-            Outcome::SystemOff => self.turn_all_off(vm_at(config, vm)),
+            } => self.turn_on(board, seat_at(config, seat.vm, own), start, arg),
+            Outcome::SystemOff => self.turn_all_off(vm_at(config, seat.vm)),
         }
     }
 
-    /// Turns on a virtual core of a VM, which begins at `start` with `arg` in X0.
-    fn turn_on<B: Board>(&mut self, vm: &Vm, board: &mut B, own: u8, start: u64, arg: u64)
+    /// Turns on a virtual core, which begins at `start` with `arg` in X0. Its list registers go back to the table.
+    fn turn_on<B: Board>(&mut self, board: &mut B, seat: Seat, start: u64, arg: u64)
         requires fitted { (B.state board.old).fitted ≡ true }
-        requires own { own < length (vm_data vm.now).cores }
-        requires core { slice_index (vm_data vm.now).cores own < length (B.state board.old).shape.cores }
-        ensures state { let core = slice_index (vm_data vm.now).cores own in
-            B.state board.new ≡ with_core (B.state board.old) core (core_started (B.state board.old).shape core start arg) }
-        ensures powers { self.new.powers ≡ slice_set self.old.powers (slice_index (vm_data vm.now).cores own) Power.On }
-        ensures tables { self.new.tables ≡ self.old.tables }
+        requires core { seat.core < length (B.state board.old).shape.cores }
+        requires vm { seat.vm < length self.old.tables }
+        requires own { seat.own < (tables_of self.old.tables seat.vm).cores }
+        ensures state { B.state board.new ≡ restarted (B.state board.old) seat.core start arg }
+        ensures powers { self.new.powers ≡ slice_set self.old.powers seat.core Power.On }
+        ensures tables { self.new.tables ≡ slice_set self.old.tables seat.vm
+            (joined (tables_of self.old.tables seat.vm) seat.own (lists_at (B.state board.old).lists seat.core)) }
     {
-        let core = vm.cores.as_slice()[usize::from(own)];
-        board.reset_core(core, start, arg);
-        self.set_power(core, Power::On);
+        self.take_back(board, seat);
+        board.reset_core(seat.core, start, arg);
+        self.set_power(seat.core, Power::On);
     }
 
     /// Gives a physical core a power, if the platform has it.
@@ -288,42 +307,38 @@ impl Hyp {
     }
 
     /// Makes an event of a shared memory pending in each VM that hears of a ring of the caller's.
-    fn ring(&mut self, config: &Config, caller: u8, shmem: u8, event: u8)
+    fn ring<B: Board>(&mut self, config: &Config, board: &mut B, caller: u8, shmem: u8, event: u8)
         requires well_formed { IsWellFormed (config_data config.now) }
-        requires counts { core_counts self.old.tables ≡ map (λ vm. length vm.cores) (config_data config.now).vms }
+        requires tidy { Tidy (config_data config.now) self.old (B.state board.old) }
         requires memory { shmem < length (config_data config.now).shmems }
-        ensures tables { tables_of self.new.tables
-            ≡ rung (config_data config.now) (is_member (config_data config.now) shmem caller) shmem event (tables_of self.old.tables) }
-        ensures counts { core_counts self.new.tables ≡ core_counts self.old.tables }
-        ensures powers { self.new.powers ≡ self.old.powers }
+        ensures { let guests = guests_of (config_data config.now) self.old (B.state board.old) in
+            IsLeft (config_data config.now) (record { old = self.old; new = self.new; before = B.state board.old; after = B.state board.new })
+            (record guests {
+              tables = rung (config_data config.now) (is_member (config_data config.now) shmem caller) shmem event guests.tables;
+            }) }
     {
         for vm in 0..config.vms.len() as u8 {
             if is_member(config, shmem, caller, vm) {
-                self.hear(config, vm, shmem, event);
+                self.hear(config, board, vm, shmem, event);
             }
         }
     }
 
-    /// Makes an event of a shared memory pending in the VM at a place.
-    fn hear(&mut self, config: &Config, vm: u8, shmem: u8, event: u8)
+    /// Makes an event of a shared memory pending in the VM at a place, among the ids of its first core.
+    fn hear<B: Board>(&mut self, config: &Config, board: &mut B, vm: u8, shmem: u8, event: u8)
         requires well_formed { IsWellFormed (config_data config.now) }
-        requires counts { core_counts self.old.tables ≡ map (λ vm. length vm.cores) (config_data config.now).vms }
+        requires tidy { Tidy (config_data config.now) self.old (B.state board.old) }
         requires vm { vm < length (config_data config.now).vms }
         requires memory { shmem < length (config_data config.now).shmems }
-        ensures tables { self.new.tables ≡ slice_set self.old.tables vm
-            (pended (irq_of (config_data config.now) vm shmem event) (tables_of self.old.tables vm)) }
-        ensures powers { self.new.powers ≡ self.old.powers }
+        ensures { let guests = guests_of (config_data config.now) self.old (B.state board.old) in
+            IsLeft (config_data config.now) (record { old = self.old; new = self.new; before = B.state board.old; after = B.state board.new })
+            (record guests {
+              tables = with_table (Some vm) (pended (irq_of (config_data config.now) vm shmem event)) guests.tables;
+            }) }
     {
         if let Some(irq) = irq_of(config, vm, shmem, event) {
-            pend(&mut self.tables, vm, irq);
+            self.pend(board, seat_at(config, vm, 0), irq);
         }
-    }
-
-    /// Whether a core has a VM and is on.
-    fn runs(&self, config: &Config, core: u8) -> bool
-        ensures { result ≡ (is_some (owner (config_data config.now) core) && is_on (slice_get self.now.powers core)) }
-    {
-        owner(config, core).is_some() && self.is_on(core)
     }
 
     /// Whether a physical core is on.
@@ -366,16 +381,6 @@ fn boot_tables(config: &Config) -> ArrayVec<IrqTable, 8>
         tables.push(IrqTable::new(vm.cores.len() as u8));
     }
     tables
-}
-
-/// Makes an interrupt of the VM at a place pending, among the ids of its first core.
-fn pend(tables: &mut ArrayVec<IrqTable, 8>, vm: u8, irq: u16)
-    requires vm { vm < length tables.old.items }
-    requires cores { 0 < (tables_of tables.old.items vm).cores }
-    requires irq { irq < 96 }
-    ensures { tables.new.items ≡ slice_set tables.old.items vm (made_pending (tables_of tables.old.items vm) 0 irq) }
-{
-    tables.as_mut_slice()[usize::from(vm)].pend(0, irq);
 }
 
 /// X0 to X3 of a core.

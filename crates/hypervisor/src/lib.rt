@@ -12,6 +12,8 @@ pub use owners::{owner, virtual_core};
 
 mod event;
 mod hyp;
+mod interrupts;
 mod law;
 mod owners;
 mod park;
+mod seat;

@@ -4,8 +4,7 @@ ghost use Rattle.std.specs.Option.{option_map};
 ghost use Rattle.bao_config.specs.Config.{config_data};
 ghost use Rattle.bao_config.specs.Data.{vm_data};
 ghost use Rattle.bao_wellformed.specs.Map.{owner};
-ghost use Rattle.vm_model.specs.Cores.{virtual_core};
-ghost use Rattle.vm_model.specs.Duty.{place_of};
+ghost use Rattle.vm_model.specs.Cores.{place_of, virtual_core};
 
 use bao_config::{Config, Vm};
 use bao_wellformed::has_core;

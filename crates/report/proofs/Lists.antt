@@ -11,6 +11,8 @@ use Rattle.mpu_packer.specs.declared.entries.Plan.{Plan}
 use Rattle.outside.specs.Sink.{grown, TakesPart}
 use Rattle.outside.proofs.Puts.{Reached, further, finished, stopped}
 use Rattle.vm_model.specs.Flat.{Flat}
+use Rattle.a64_state.specs.Core.{CoreData}
+use Rattle.hypercalls.specs.declared.power.Power.{Power}
 use Rattle.report.specs.Section.{core_text, cores_text, console_text, consoles_text, vm_text, sections}
 use Rattle.report.specs.Packing.{entry_line, entries_text, packed_text, cores_packed}
 
@@ -29,14 +31,14 @@ module _ (start now : Option (List ℕ)) (whole left : List ℕ) (reached : Reac
   ends_whole none = finished start now whole (subst (Reached start now whole) none reached)
 
 -- the cores of a VM
-pub cores_next : (f : Flat) (cores : List ℕ) (j : ℕ) → j < length cores
-    → cores_text f j (drop j cores) ≡ core_text f j (get_or cores j 0) ++ cores_text f (j + 1) (drop (j + 1) cores)
+pub cores_next : (powers : List Power) (all : List CoreData) (cores : List ℕ) (j : ℕ) → j < length cores
+    → cores_text powers all j (drop j cores) ≡ core_text powers all j (get_or cores j 0) ++ cores_text powers all (j + 1) (drop (j + 1) cores)
 unfolding cores_text
-cores_next f cores j low = rw (drop-cons cores j 0 low, add-one) refl
+cores_next powers all cores j low = rw (drop-cons cores j 0 low, add-one) refl
 
-pub cores_none : (f : Flat) (cores : List ℕ) (j : ℕ) → length cores ≤ j → cores_text f j (drop j cores) ≡ []
+pub cores_none : (powers : List Power) (all : List CoreData) (cores : List ℕ) (j : ℕ) → length cores ≤ j → cores_text powers all j (drop j cores) ≡ []
 unfolding cores_text
-cores_none f cores j high = rw (drop_of_length-le cores high) refl
+cores_none powers all cores j high = rw (drop_of_length-le cores high) refl
 
 -- its consoles
 pub consoles_next : (console : ℕ → List ℕ) (devs : List Dev) (i : ℕ) (dev : Dev) → i < length devs → dev ≡ get_or devs i dev

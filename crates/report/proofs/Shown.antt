@@ -45,20 +45,20 @@ run_alike f g at (suc n) same =
     (λ k low. let e : at + 1 + k ≡ at + suc k = omega arith in ap f e ∙ same (suc k) (omega arith) ∙ sym (ap g e)))
 
 module _ (cfg : ConfigData) (v : ℕ) (vm : VmData) (f g : Flat) (agree : Agree cfg v vm f g) (granular : IsGranular cfg vm) where
-  core_alike : (j core : ℕ) → IsTrue (has_core core vm) → core_text f j core ≡ core_text g j core
+  core_alike : (j core : ℕ) → IsTrue (has_core core vm) → core_text f.powers f.cores j core ≡ core_text g.powers g.cores j core
   unfolding core_text
   core_alike j core has =
       ap (λ p. power_line j p ++ registers_text (view_of (core_at f.cores core))) (agree.powers core has)
       ∙ ap (λ c. power_line j (slice_get g.powers core) ++ registers_text (view_of c)) (agree.cores core has)
 
   cores_alike : (j : ℕ) (cores : List ℕ) → ((c : ℕ) → IsTrue (list_any (λ own. own == c) cores) → IsTrue (has_core c vm))
-      → cores_text f j cores ≡ cores_text g j cores
+      → cores_text f.powers f.cores j cores ≡ cores_text g.powers g.cores j cores
   unfolding cores_text
   cores_alike j [] all = refl
   cores_alike j (core ∷ cores) all =
       let self : (core == core) ≡ true = grind (arith, nat_tests) in
-      ap (λ t. t ++ cores_text f (j + 1) cores) (core_alike j core (all core (rw self refl)))
-      ∙ ap (λ t. core_text g j core ++ t) (cores_alike (j + 1) cores (λ c h. all c (in_rest (core == c) _ h)))
+      ap (λ t. t ++ cores_text f.powers f.cores (j + 1) cores) (core_alike j core (all core (rw self refl)))
+      ∙ ap (λ t. core_text g.powers g.cores j core ++ t) (cores_alike (j + 1) cores (λ c h. all c (in_rest (core == c) _ h)))
 
   consoles_alike : (devs : List Dev) → ((port : ℕ) → IsTrue (list_any (λ dev. dev.port == port) devs) → IsTrue (has_port port vm))
       → consoles_text (outputs f.ports) devs ≡ consoles_text (outputs g.ports) devs
@@ -93,9 +93,9 @@ module _ (cfg : ConfigData) (v : ℕ) (vm : VmData) (f g : Flat) (agree : Agree 
   text_alike =
       ap (λ t. vm_line vm.name ++ (t ++ (consoles_text (outputs f.ports) vm.devs ++ (memory_text (kind_at cfg vm) f.bytes all_groups 0 ++ end_line vm.name))))
       (cores_alike 0 vm.cores (λ c h. h))
-      ∙ ap (λ t. vm_line vm.name ++ (cores_text g 0 vm.cores ++ (t ++ (memory_text (kind_at cfg vm) f.bytes all_groups 0 ++ end_line vm.name))))
+      ∙ ap (λ t. vm_line vm.name ++ (cores_text g.powers g.cores 0 vm.cores ++ (t ++ (memory_text (kind_at cfg vm) f.bytes all_groups 0 ++ end_line vm.name))))
       (consoles_alike vm.devs (λ port h. h))
-      ∙ ap (λ t. vm_line vm.name ++ (cores_text g 0 vm.cores ++ (consoles_text (outputs g.ports) vm.devs ++ (t ++ end_line vm.name))))
+      ∙ ap (λ t. vm_line vm.name ++ (cores_text g.powers g.cores 0 vm.cores ++ (consoles_text (outputs g.ports) vm.devs ++ (t ++ end_line vm.name))))
       (memory_alike all_groups 0 refl)
 
 -- what is shown of a VM doesn't depend on the list of VMs

@@ -1,6 +1,7 @@
 -- The report: a section for each VM, then `done`.
 use Rattle.std.specs.Prelude.{ℕ, zero, suc, ◌+◌, ◌==◌, ◌&&◌, nat_lt, Bool, true, false, not, if◌then◌else◌, List, [], ◌∷◌, ◌++◌, Option, None, Some, slice_get, codes}
 use Rattle.std.specs.List.{list_all}
+use Rattle.a64_state.specs.Core.{CoreData}
 use Rattle.board.specs.declared.view.CoreView.{CoreView}
 use Rattle.bao_config.specs.Data.{ConfigData, VmData}
 use Rattle.bao_config.specs.declared.config.Dev.{Dev}
@@ -52,13 +53,13 @@ power_line j (Some Off) = core_off_line j
 power_line j (Some (Parked esr far)) = core_parked_line j esr far
 
 -- the virtual core j, which is this physical core
-unfoldable pub core_text : Flat → ℕ → ℕ → List ℕ
-core_text f j core = power_line j (slice_get f.powers core) ++ registers_text (view_of (core_at f.cores core))
+unfoldable pub core_text : List Power → List CoreData → ℕ → ℕ → List ℕ
+core_text powers cores j core = power_line j (slice_get powers core) ++ registers_text (view_of (core_at cores core))
 
 -- the virtual cores from a number on
-unfoldable pub cores_text : Flat → ℕ → List ℕ → List ℕ
-cores_text f j [] = []
-cores_text f j (core ∷ cores) = core_text f j core ++ cores_text f (j + 1) cores
+unfoldable pub cores_text : List Power → List CoreData → ℕ → List ℕ → List ℕ
+cores_text powers cores j [] = []
+cores_text powers cores j (own ∷ owns) = core_text powers cores j own ++ cores_text powers cores (j + 1) owns
 
 -- ports 0 to 7 are consoles
 abbrev pub is_console : ℕ → Bool
@@ -105,7 +106,7 @@ all_groups = 0x100000000000
 unfoldable pub vm_text : ConfigData → Flat → VmData → List ℕ
 vm_text cfg f vm =
     vm_line vm.name
-    ++ (cores_text f 0 vm.cores
+    ++ (cores_text f.powers f.cores 0 vm.cores
     ++ (consoles_text (outputs f.ports) vm.devs
     ++ (memory_text (kind_at cfg vm) f.bytes all_groups 0 ++ end_line vm.name)))
 

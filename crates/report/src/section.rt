@@ -44,7 +44,7 @@ pub fn write_section<K: Sink, B: Board>(
     requires cores { All (λ core. core < length (B.state board.now).shape.cores) vm.now.cores.items }
     requires space { All (λ entry. end entry.range ≤ address_space_end) (map_of (config_data config.now) (vm_data vm.now)) }
     ensures taken { Takes (K.taken sink.old) (K.taken sink.new)
-        (vm_text (config_data config.now) (stands_for hyp.now (B.state board.now)) (vm_data vm.now)) result }
+        (vm_text (config_data config.now) (stands_for (config_data config.now) hyp.now (B.state board.now)) (vm_data vm.now)) result }
     ensures cause { HasCause (K.faults sink.old) (K.faults sink.new) result }
 {
     let name = vm.name.as_str().as_bytes();
@@ -67,7 +67,7 @@ fn write_cores<K: Sink, B: Board>(
     requires cores { All (λ core. core < length (B.state board.now).shape.cores) cores.now }
     requires few { length cores.now ≤ 8 }
     ensures taken { Takes (K.taken sink.old) (K.taken sink.new)
-        (cores_text (stands_for hyp.now (B.state board.now)) 0 cores.now) result }
+        (cores_text hyp.now.powers (B.state board.now).cores 0 cores.now) result }
     ensures cause { HasCause (K.faults sink.old) (K.faults sink.new) result }
 {
     for (j, core) in cores.iter().enumerate() {
@@ -87,7 +87,7 @@ fn write_core<K: Sink, B: Board>(
 ) -> Result<(), SinkFailed>
     requires fitted { (B.state board.now).fitted ≡ true }
     requires core { core < length (B.state board.now).shape.cores }
-    ensures taken { Takes (K.taken sink.old) (K.taken sink.new) (core_text (stands_for hyp.now (B.state board.now)) j core) result }
+    ensures taken { Takes (K.taken sink.old) (K.taken sink.new) (core_text hyp.now.powers (B.state board.now).cores j core) result }
     ensures cause { HasCause (K.faults sink.old) (K.faults sink.new) result }
 {
     put_core(sink, j, hyp.power_of_core(core))?;

@@ -37,7 +37,7 @@ pub fn write_summary<K: Sink, B: Board>(
     requires fitted { (B.state board.now).fitted ≡ true }
     requires cores { length (B.state board.now).shape.cores ≡ length (checked_data checked.now).platform.cores }
     ensures taken { Takes (K.taken sink.old) (K.taken sink.new)
-        (summary (checked_data checked.now) (stands_for hyp.now (B.state board.now))) result }
+        (summary (checked_data checked.now) (stands_for (checked_data checked.now) hyp.now (B.state board.now))) result }
     ensures cause { HasCause (K.faults sink.old) (K.faults sink.new) result }
 {
     write_vms(sink, board, checked)?;

@@ -11,3 +11,4 @@ pub mod Confined
 pub mod Kept
 pub mod Ways
 pub mod Standard
+pub mod Fresh

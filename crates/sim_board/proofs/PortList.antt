@@ -1,14 +1,16 @@
 -- Ports in a list, of which one changes.
 use Rattle.std.proofs.Common.{◌≡◌, ℕ, zero, suc, ◌+◌, ◌*◌, ◌<◌, ◌≤◌, ◌%◌, ◌^◌, Bool, true, false, ◌≢◌, List, [], ◌∷◌, length, map, get_or, set, refl, sym, ap, ◌∙◌, arith}
-use Rattle.std.specs.Prelude.{◌==◌, if◌then◌else◌, min, Option, Some}
+use Rattle.std.specs.Prelude.{◌==◌, if◌then◌else◌, min, Option, None, Some}
 use Rattle.std.proofs.lemmas.Bool.Decides.{nat_tests}
 use Rattle.std.proofs.lemmas.Grind.{get_or-set_at}
 use Rattle.std.proofs.lemmas.List.{map-set, length-map, get_or-map, get_or-set_other, set-get_or}
 use Rattle.bao_types.specs.Shape.{event_limit}
 use Rattle.ports.specs.PortState.{PortState, new_port}
 use Rattle.ports.specs.declared.port.PortKind.TheVariants.{Console}
-use Rattle.ports.specs.Registers.{after_read, after_write}
-use Rattle.board.specs.Ports.{PortByte as PlaceInPort, all_accessed, element_read, element_written, with_port}
+use Rattle.ports.specs.Registers.{after_read, after_write, line_of_input, line_of_write}
+use Rattle.gic_core.specs.Lines.{LinesData}
+use Rattle.board.specs.Interrupts.{lines_accessed, lines_given, with_port_if}
+use Rattle.board.specs.Ports.{PortByte as PlaceInPort, PortStates, all_accessed, element_read, element_written, with_port}
 use Rattle.sim_board.specs.declared.spots.PortByte.{PortByte}
 use Rattle.sim_board.specs.Devices.{least_room, place_of, states_of}
 
@@ -57,6 +59,28 @@ port_written state items place byte width j value part old new stands number low
     port_after state items byte.port j old new (λ s. after_write s byte.offset width (value % 256 ^ width)) number low here
     (is ∙ ap (λ v. after_write (state old) byte.offset width v) least)
     ∙ ap (λ p. all_accessed (element_written p width value) (states_of (map state items))) stands
+
+-- what a read makes of the lines, a write, and an input
+pub nothing_raised : (place : Option PlaceInPort) (width : ℕ) (states : PortStates) (lines : LinesData)
+    → lines ≡ lines_accessed (element_read place width) states lines
+nothing_raised None width states lines = refl
+nothing_raised (Some byte) width states lines = refl
+
+pub line_written : {B : Type 0} (state : B → PortState) (items : List B) (place : Option PlaceInPort) (byte : PortByte) (width j value part : ℕ) (old : B) (raised : Bool) (lines : LinesData)
+    → Some (place_of byte) ≡ place → j ≡ byte.port → byte.port < length items → old ≡ get_or items j old
+    → part ≡ value % 256 ^ width → raised ≡ line_of_write (state old) byte.offset width part
+    → with_port_if raised byte.port lines ≡ lines_accessed (element_written place width value) (states_of (map state items)) lines
+line_written state items place byte width j value part old raised lines stands number low here least is =
+    ap (λ r. with_port_if r byte.port lines)
+    (is ∙ ap (line_of_write (state old) byte.offset width) least
+    ∙ ap (λ s. line_of_write s byte.offset width (value % 256 ^ width)) (sym (state_here state items byte.port j old number low here)))
+    ∙ ap (λ p. lines_accessed (element_written p width value) (states_of (map state items)) lines) stands
+
+pub line_given : {B : Type 0} (state : B → PortState) (items : List B) (i j : ℕ) (old : B) (raised : Bool) (lines : LinesData)
+    → j ≡ i → i < length items → old ≡ get_or items j old → raised ≡ line_of_input (state old)
+    → with_port_if raised i lines ≡ lines_given (states_of (map state items)) i lines
+line_given state items i j old raised lines number low here is =
+    ap (λ r. with_port_if r i lines) (is ∙ sym (ap line_of_input (state_here state items i j old number low here)))
 
 least_within : {B : Type 0} (spare : B → ℕ) (items : List B) (i : ℕ) (d : B) → i < length items
     → least_room (map spare items) ≤ spare (get_or items i d)

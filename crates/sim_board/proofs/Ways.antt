@@ -14,6 +14,12 @@ not_at_all None true memory port refused is = cc
 not_at_all None false memory port refused is = cc
 not_at_all (Some fault) free memory port refused is = cc
 
+pub in_ports : (fault : Option Fault) (free : Bool) (memory port : Judged) → way.Port ≡ way_of fault free
+    → port ≡ fault_else fault (if free then memory else port)
+in_ports None true memory port is = cc
+in_ports None false memory port is = refl
+in_ports (Some fault) free memory port is = cc
+
 -- an access that is carried out has no fault, and one in memory has no port's byte
 pub no_fault_memory : (fault : Option Fault) (free : Bool) → way.Memory ≡ way_of fault free → fault ≡ None
 no_fault_memory None free is = refl

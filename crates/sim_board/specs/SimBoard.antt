@@ -18,9 +18,10 @@ state_of states room board =
       shape = shape_data board.shape;
       bytes = held_bytes board.memory;
       cores = board.cores.items;
+      lists = board.lists.items;
       entries = board.tables.items;
       ports = states;
-      count = board.count;
+      lines = board.devices.lines;
       entered = board.entered;
       spent = board.spent;
     }

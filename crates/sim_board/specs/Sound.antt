@@ -17,12 +17,15 @@ IsConfined shape entry =
     (at : ℕ) → IsTrue (is_match entry at) → IsTrue (gives_guest entry Write)
     → IsTrue (is_used shape at || is_port (port_places shape.ports) at)
 
--- where there is memory, that in use is kept; each core of the shape has its registers and entries, each of them confined; the
--- ports stand where the shape says; and no more steps were taken than events were spent, of a million at most
-pub record IsSound (shape : Shape) (memory : Option BanksData) (cores_len : ℕ) (entries : List (List Region)) (places : List PortSpot)
+-- where there is memory, that in use is kept; each core of the shape, of eight at most, has its registers, its list registers and
+-- its entries, each of them confined; the ports stand where the shape says; and no more steps were taken than events were spent,
+-- of a million at most
+pub record IsSound (shape : Shape) (memory : Option BanksData) (cores_len lists_len : ℕ) (entries : List (List Region)) (places : List PortSpot)
     (entered spent : ℕ) : Type 0 where
   pub used : (banks : BanksData) → memory ≡ Some banks → (at : ℕ) → IsTrue (is_used (shape_data shape) at) → IsTrue (is_kept banks at)
+  pub few : length shape.cores.items ≤ 8
   pub cores : cores_len ≡ length shape.cores.items
+  pub lists : lists_len ≡ length shape.cores.items
   pub entries_len : length entries ≡ length shape.cores.items
   pub confined : All (All (IsConfined (shape_data shape))) entries
   pub spots : places ≡ shape.ports.items

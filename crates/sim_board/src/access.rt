@@ -6,6 +6,7 @@ ghost use Rattle.a64_execute.specs.Want.{bytes_of, IsAccess};
 ghost use Rattle.board.specs.Stage.{by_entries, by_regions};
 ghost use Rattle.board.specs.Judge.{all_from, fault_else, first_fault, is_free};
 ghost use Rattle.board.specs.Attempt.{is_misaligned};
+ghost use Rattle.board.specs.Interrupts.{lines_accessed};
 ghost use Rattle.board.specs.Machine.{port_places, written};
 ghost use Rattle.board.specs.declared.judged.Judged.TheVariants.{Memory};
 ghost use Rattle.board.specs.Ports.{all_accessed, element_read, element_stored, element_value, element_written, elements_read, elements_stored, elements_value, elements_written, number_at as number_from};
@@ -101,6 +102,9 @@ pub(crate) fn read_elements<D: Devices>(memory: &Banks, devices: &mut D, shape: 
         shape.now.at shape.now.width shape.now.count }
     ensures states { D.states devices.new
         ≡ all_accessed (elements_read (port_places (D.spots devices.old)) shape.now.at shape.now.width shape.now.count) (D.states devices.old) }
+    ensures lines { D.lines devices.new
+        ≡ lines_accessed (elements_read (port_places (D.spots devices.old)) shape.now.at shape.now.width shape.now.count)
+        (D.states devices.old) (D.lines devices.old) }
     ensures room { D.room devices.new ≡ D.room devices.old }
     ensures spots { D.spots devices.new ≡ D.spots devices.old }
 {
@@ -119,6 +123,8 @@ fn read_element<D: Devices>(memory: &Banks, devices: &mut D, at: u64, width: u32
     requires aligned { at % width ≡ 0 }
     ensures value { result ≡ element_value (D.states devices.old) (byte_at memory.now) (port_places (D.spots devices.old) at) at width }
     ensures states { D.states devices.new ≡ all_accessed (element_read (port_places (D.spots devices.old) at) width) (D.states devices.old) }
+    ensures lines { D.lines devices.new
+        ≡ lines_accessed (element_read (port_places (D.spots devices.old) at) width) (D.states devices.old) (D.lines devices.old) }
     ensures room { D.room devices.new ≡ D.room devices.old }
     ensures spots { D.spots devices.new ≡ D.spots devices.old }
 {
@@ -145,6 +151,9 @@ pub(crate) fn write_elements<D: Devices>(
         ≡ written (elements_stored (port_places (D.spots devices.old)) shape.now.at shape.now.width shape.now.count value) (byte_at memory.old) }
     ensures states { D.states devices.new
         ≡ all_accessed (elements_written (port_places (D.spots devices.old)) shape.now.at shape.now.width shape.now.count value) (D.states devices.old) }
+    ensures lines { D.lines devices.new
+        ≡ lines_accessed (elements_written (port_places (D.spots devices.old)) shape.now.at shape.now.width shape.now.count value)
+        (D.states devices.old) (D.lines devices.old) }
     ensures room { D.room devices.old ≤ D.room devices.new + 2 }
     ensures spots { D.spots devices.new ≡ D.spots devices.old }
 {
@@ -170,6 +179,8 @@ fn write_element<D: Devices>(memory: &mut Banks, devices: &mut D, at: u64, width
     ensures kept { is_kept memory.new ≡ is_kept memory.old }
     ensures bytes { byte_at memory.new ≡ written (element_stored (port_places (D.spots devices.old) at) at width value) (byte_at memory.old) }
     ensures states { D.states devices.new ≡ all_accessed (element_written (port_places (D.spots devices.old) at) width value) (D.states devices.old) }
+    ensures lines { D.lines devices.new
+        ≡ lines_accessed (element_written (port_places (D.spots devices.old) at) width value) (D.states devices.old) (D.lines devices.old) }
     ensures room { D.room devices.old ≤ D.room devices.new + 1 }
     ensures spots { D.spots devices.new ≡ D.spots devices.old }
 {

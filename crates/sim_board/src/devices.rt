@@ -5,7 +5,9 @@ ghost use Rattle.bao_types.specs.Bytes.{IsWidth};
 ghost use Rattle.bao_types.specs.Shape.{event_limit, port_size};
 ghost use Rattle.bao_types.specs.declared.shape.PortSpot.{PortSpot};
 ghost use Rattle.ports.specs.PortState.{byte_count, output_of};
-ghost use Rattle.ports.specs.Registers.{after_input, after_read, after_write, value_read};
+ghost use Rattle.ports.specs.Registers.{after_input, after_read, after_write, line_of_input, line_of_write, value_read};
+ghost use Rattle.gic_core.specs.Lines.{LinesData, quiet_lines};
+ghost use Rattle.board.specs.Interrupts.{lines_accessed, lines_given, with_port_if};
 ghost use Rattle.board.specs.Judge.{is_free};
 ghost use Rattle.board.specs.Machine.{port_places};
 ghost use Rattle.board.specs.Ports.{PortStates, all_accessed, element_read, element_written, is_port, outputs, port_count, with_port};
@@ -16,10 +18,11 @@ use crate::gap::Gap;
 use crate::spots::{PortByte, port_at};
 use arrayvec::ArrayVec;
 use bao_types::{OutOfMemory, PortSpot};
+use gic_core::Lines;
 use ports::Port;
 use std::alloc::Global;
 
-/// The ports of a board, as its calls and a core's step reach them.
+/// The ports of a board and the interrupt lines that they raise, as its calls and a core's step reach them.
 pub(crate) trait Devices {
     // what each port keeps, by its number
     ghost states: { Self → PortStates };
@@ -29,6 +32,9 @@ pub(crate) trait Devices {
 
     // where the ports stand that the board's shape has
     ghost spots: { Self → List PortSpot };
+
+    // which interrupt lines are raised
+    ghost lines: { Self → LinesData };
 
     /// Whether none of so many bytes is a port's.
     fn is_free(&self, at: u64, count: u8) -> bool
@@ -41,10 +47,13 @@ pub(crate) trait Devices {
         ensures value { result ≡ option_map (λ byte. value_read (states self.old byte.port) byte.offset width)
             (port_places (spots self.old) at) }
         ensures states { states self.new ≡ all_accessed (element_read (port_places (spots self.old) at) width) (states self.old) }
+        ensures lines { lines self.new
+            ≡ lines_accessed (element_read (port_places (spots self.old) at) width) (states self.old) (lines self.old) }
         ensures room { room self.new ≡ room self.old }
         ensures spots { spots self.new ≡ spots self.old };
 
-    /// Writes an element, the lowest bytes of a value, in the port that has its first byte, and answers whether one has.
+    /// Writes an element, the lowest bytes of a value, in the port that has its first byte, and answers whether one has. The
+    /// port's line is raised where the write asks for it.
     fn write(&mut self, at: u64, width: u32, value: u128) -> bool
         requires width { IsWidth width }
         requires aligned { at % width ≡ 0 }
@@ -52,14 +61,17 @@ pub(crate) trait Devices {
         ensures port { result ≡ is_port (port_places (spots self.old)) at }
         ensures apart { result ≡ false → IsTrue (is_free (port_places (spots self.old)) at width) }
         ensures states { states self.new ≡ all_accessed (element_written (port_places (spots self.old) at) width value) (states self.old) }
+        ensures lines { lines self.new
+            ≡ lines_accessed (element_written (port_places (spots self.old) at) width value) (states self.old) (lines self.old) }
         ensures room { room self.old ≤ room self.new + 1 }
         ensures spots { spots self.new ≡ spots self.old };
 
-    /// Gives a port a byte.
+    /// Gives a port a byte, and raises its line where the byte asks for it.
     fn input(&mut self, port: u8, byte: u8)
         requires port { port < port_count }
         requires room { 1 ≤ room self.old }
         ensures states { states self.new ≡ with_port port (after_input (states self.old port) byte) (states self.old) }
+        ensures lines { lines self.new ≡ lines_given (states self.old) port (lines self.old) }
         ensures room { room self.old ≤ room self.new + 1 }
         ensures spots { spots self.new ≡ spots self.old };
 
@@ -69,13 +81,15 @@ pub(crate) trait Devices {
         requires bytes { (port : ℕ) → byte_count (states self.old port) ≤ 2 * event_limit }
         ensures room { OnOk result (2 * events ≤ room self.new) }
         ensures states { states self.new ≡ states self.old }
+        ensures lines { lines self.new ≡ lines self.old }
         ensures spots { spots self.new ≡ spots self.old };
 
-    /// Lets the ports stand at these addresses; `near` is one that most accesses are near.
+    /// Lets the ports stand at these addresses, with no line raised; `near` is one that most accesses are near.
     fn stand(&mut self, places: ArrayVec<PortSpot, 16>, near: u64)
         requires numbers { All (λ spot. spot.id < port_count) places.items }
         requires bases { All (λ spot. spot.base % port_size ≡ 0) places.items }
         ensures spots { spots self.new ≡ places.items }
+        ensures lines { lines self.new ≡ quiet_lines places.items }
         ensures states { states self.new ≡ states self.old }
         ensures room { room self.new ≡ room self.old };
 
@@ -99,6 +113,8 @@ pub(crate) struct BoxedPorts {
     spots: ArrayVec<PortSpot, 16>,
     /// Addresses that need no look at each spot.
     gap: Gap,
+    /// The interrupt lines of these spots, and of the cores' timers.
+    pub lines: Lines,
     ghost count: { length ports.items ≡ port_count },
     ghost numbers: { All (λ spot. spot.id < port_count) spots.items },
     ghost bases: { All (λ spot. spot.base % port_size ≡ 0) spots.items },
@@ -111,6 +127,8 @@ impl Devices for BoxedPorts {
     ghost room = { λ devices. least_room (map (λ port. (Port-box port).spare port.value) devices.ports.items) };
 
     ghost spots = { λ devices. devices.spots.items };
+
+    ghost lines = { λ devices. devices.lines };
 
     #[inline(always)]
     fn is_free(&self, at: u64, count: u8) -> bool {
@@ -134,12 +152,13 @@ impl Devices for BoxedPorts {
         match port_at(&self.spots, at) {
             Some(byte) => {
                 let part = (value % power(width)) as u64;
-                write_one(
+                let raised = write_one(
                     &mut self.ports[usize::from(byte.port)],
                     byte.offset,
                     width,
                     part,
                 );
+                raise_port_if(&mut self.lines, raised, byte.port);
                 true
             }
             None => false,
@@ -147,7 +166,8 @@ impl Devices for BoxedPorts {
     }
 
     fn input(&mut self, port: u8, byte: u8) {
-        input_one(&mut self.ports[usize::from(port)], byte);
+        let raised = input_one(&mut self.ports[usize::from(port)], byte);
+        raise_port_if(&mut self.lines, raised, port);
     }
 
     fn reserve(&mut self, alloc: Global, events: u32) -> Result<(), OutOfMemory> {
@@ -159,6 +179,7 @@ impl Devices for BoxedPorts {
 
     fn stand(&mut self, places: ArrayVec<PortSpot, 16>, near: u64) {
         self.gap = Gap::around(&places, near);
+        self.lines = Lines::new(&places);
         self.spots = places;
     }
 
@@ -182,6 +203,7 @@ impl BoxedPorts {
             ports,
             spots: ArrayVec::new(),
             gap: Gap::NONE,
+            lines: Lines::new(&ArrayVec::new()),
         }
     }
 }
@@ -227,13 +249,14 @@ fn read_one(port: &mut Box<dyn Port>, offset: u32, width: u32) -> u64
     port.read(offset, width)
 }
 
-/// Gives one port a byte. Which line the byte raises is nothing to the board yet.
-fn input_one(port: &mut Box<dyn Port>, byte: u8)
+/// Gives one port a byte, and answers whether that raises its line.
+fn input_one(port: &mut Box<dyn Port>, byte: u8) -> bool
     requires { 1 ≤ spare port.old }
+    ensures line { result ≡ line_of_input (state port.old) }
     ensures state { state port.new ≡ after_input (state port.old) byte }
     ensures spare { spare port.old ≤ spare port.new + 1 }
 {
-    port.input(byte);
+    port.input(byte)
 }
 
 /// Makes room in one port.
@@ -246,14 +269,24 @@ fn reserve_one(port: &mut Box<dyn Port>, alloc: Global, events: u32) -> Result<(
     port.reserve(alloc, events)
 }
 
-/// Writes in one port. Which line the write raises is nothing to the board yet.
-fn write_one(port: &mut Box<dyn Port>, offset: u32, width: u32, value: u64)
+/// Writes in one port, and answers whether that raises its line.
+fn write_one(port: &mut Box<dyn Port>, offset: u32, width: u32, value: u64) -> bool
     requires access { offset + width ≤ port_size }
     requires spare { 1 ≤ spare port.old }
+    ensures line { result ≡ line_of_write (state port.old) offset width value }
     ensures state { state port.new ≡ after_write (state port.old) offset width value }
     ensures spare { spare port.old ≤ spare port.new + 1 }
 {
-    port.write(offset, width, value);
+    port.write(offset, width, value)
+}
+
+/// Raises the line of a port, or leaves all as they are.
+fn raise_port_if(lines: &mut Lines, raised: bool, port: u8)
+    ensures { lines.new ≡ with_port_if raised port lines.old }
+{
+    if raised {
+        lines.raise_port(port);
+    }
 }
 
 /// How many bytes one port has put out.

@@ -1,18 +1,20 @@
-ghost use Rattle.std.specs.Prelude.{◌≡◌, ℕ, ◌≤◌, ◌<◌, false, length, slice_set, map, replicate, All, IfOk};
+ghost use Rattle.std.specs.Prelude.{◌≡◌, ℕ, ◌≤◌, ◌<◌, true, false, length, slice_set, map, replicate, All, IfOk};
+ghost use Rattle.bao_types.specs.ListReg.{free_registers};
 ghost use Rattle.bao_types.specs.Shape.{shape_data};
 ghost use Rattle.a64_state.specs.Registers.{reset_core};
 ghost use Rattle.bao_types.specs.Region.{no_region};
-ghost use Rattle.board.specs.Machine.{entries_at};
+ghost use Rattle.board.specs.Interrupts.{exit_of};
+ghost use Rattle.board.specs.Machine.{carried_out, entries_at, lists_at, machine_effect, ticked};
 ghost use Rattle.board.specs.Ports.{port_count, standard_ports};
 ghost use Rattle.sim_board.specs.Devices.{states_of};
 ghost use Rattle.sim_board.specs.Sound.{IsSound};
 
 use crate::devices::{BoxedPorts, Devices};
 use crate::memory::copy_in;
-use crate::step::step_core;
+use crate::step::{look_at_timer, step_core};
 use a64_state::Core;
 use arrayvec::ArrayVec;
-use bao_types::{CorePlace, OutOfMemory, PortSpot, Region, Shape};
+use bao_types::{CorePlace, ListReg, OutOfMemory, PortSpot, Region, Shape};
 use board::{Board, CoreView, Exit};
 use phys_bank::Banks;
 use pmsa_table::Table;
@@ -26,14 +28,14 @@ pub struct SimBoard {
     /// None before the board is fitted.
     memory: Option<Banks>,
     cores: Vec<Core>,
+    /// The list registers of each core.
+    lists: Vec<[ListReg; 4]>,
     /// The EL2 entries of each core, compiled.
     tables: Vec<Table>,
     devices: BoxedPorts,
-    /// What the last step was handed.
-    count: u64,
     entered: u64,
     spent: u64,
-    ghost sound: { IsSound shape memory (length cores.items) tables.items devices.spots.items entered spent },
+    ghost sound: { IsSound shape memory (length cores.items) (length lists.items) tables.items devices.spots.items entered spent },
 }
 
 impl SimBoard {
@@ -50,12 +52,54 @@ impl SimBoard {
             shape: Shape::default(),
             memory: None,
             cores: Vec::new(alloc),
+            lists: Vec::new(alloc),
             tables: Vec::new(alloc),
             devices: BoxedPorts::new(ports),
-            count: 0,
             entered: 0,
             spent: 0,
         }
+    }
+
+    /// Looks at a core's timer at the system count `now`.
+    #[inline(always)]
+    fn tick(&mut self, core: u8, now: u64)
+        requires core { core < length (⟦<SimBoard as Board>⟧.state self.old).shape.cores }
+        ensures { ⟦<SimBoard as Board>⟧.state self.new ≡ ticked (⟦<SimBoard as Board>⟧.state self.old) core now }
+    {
+        look_at_timer(
+            &mut self.cores[usize::from(core)],
+            &mut self.devices.lines,
+            core,
+            now,
+        );
+    }
+
+    /// Lets a core take a step for which no line is raised, once its timer is looked at.
+    #[inline(always)]
+    fn proceed(&mut self, core: u8, now: u64) -> Exit
+        requires fitted { (⟦<SimBoard as Board>⟧.state self.old).fitted ≡ true }
+        requires core { core < length (⟦<SimBoard as Board>⟧.state self.old).shape.cores }
+        requires spent { (⟦<SimBoard as Board>⟧.state self.old).spent < (⟦<SimBoard as Board>⟧.state self.old).shape.events }
+        ensures state { ⟦<SimBoard as Board>⟧.state self.new ≡ carried_out (⟦<SimBoard as Board>⟧.state self.old) core
+            (machine_effect (⟦<SimBoard as Board>⟧.state self.old) core now) }
+        ensures exit { result ≡ exit_of (machine_effect (⟦<SimBoard as Board>⟧.state self.old) core now).outcome
+            (lists_at (⟦<SimBoard as Board>⟧.state self.old).lists core) }
+    {
+        let Some(memory) = &mut self.memory else {
+            unreachable!()
+        };
+        let at = usize::from(core);
+        let exit = step_core(
+            &mut self.cores[at],
+            &mut self.lists[at],
+            memory,
+            &mut self.devices,
+            &mut self.tables[at],
+            now,
+        );
+        self.entered += 1;
+        self.spent += 1;
+        exit
     }
 }
 
@@ -74,6 +118,23 @@ fn reset_cores(alloc: Global, places: &[CorePlace]) -> Result<Vec<Core>, AllocEr
         .iter()
         .map(|place| Core::reset(place.affinity))
         .collect(alloc)
+}
+
+/// The list registers of the cores of a shape, all of them free.
+fn free_lists(alloc: Global, places: &[CorePlace]) -> Result<Vec<[ListReg; 4]>, AllocError>
+    ensures { IfOk result (λ lists. lists.items ≡ map (λ place. free_registers) places.now) }
+{
+    let mut lists = Vec::with_capacity(alloc, places.len())?;
+    for i in 0..places.len() {
+        lists.push(free_registers())?;
+    }
+    Ok(lists)
+}
+
+fn free_registers() -> [ListReg; 4]
+    ensures { result ≡ free_registers }
+{
+    [ListReg::free(); 4]
 }
 
 /// Each core's EL2 entries, all of them zero.
@@ -151,13 +212,14 @@ impl Board for SimBoard {
         let spots = copy_spots(&shape.ports)?;
         let memory = Banks::new(alloc, &shape.banks, &shape.used)?;
         let cores = reset_cores(alloc, &shape.cores)?;
+        let lists = free_lists(alloc, &shape.cores)?;
         let tables = zero_tables(alloc, &shape.cores)?;
         self.devices.stand(spots, first_used(shape));
         self.shape = copy;
         self.memory = Some(memory);
         self.cores = cores;
+        self.lists = lists;
         self.tables = tables;
-        self.count = 0;
         self.entered = 0;
         self.spent = 0;
         Ok(())
@@ -189,6 +251,7 @@ impl Board for SimBoard {
         fresh.write_x(0, arg);
         fresh.pc = pc;
         self.cores[usize::from(core)] = fresh;
+        self.lists[usize::from(core)] = free_registers();
     }
 
     fn gpr(&self, core: u8, n: u8) -> u64 {
@@ -204,22 +267,24 @@ impl Board for SimBoard {
         core.pc = core.pc.wrapping_add(4);
     }
 
+    fn lists(&self, core: u8) -> [ListReg; 4] {
+        self.lists[usize::from(core)]
+    }
+
+    fn set_lists(&mut self, core: u8, lists: &[ListReg; 4]) {
+        self.lists[usize::from(core)] = *lists;
+    }
+
+    fn ack(&mut self, core: u8) -> Option<u16> {
+        self.devices.lines.ack(core)
+    }
+
     fn step(&mut self, core: u8, now: u64) -> Exit {
-        let Some(memory) = &mut self.memory else {
-            unreachable!()
-        };
-        let at = usize::from(core);
-        let exit = step_core(
-            &mut self.cores[at],
-            memory,
-            &mut self.devices,
-            &mut self.tables[at],
-            now,
-        );
-        self.count = now;
-        self.entered += 1;
-        self.spent += 1;
-        exit
+        self.tick(core, now);
+        if self.devices.lines.raised(core) {
+            return Exit::Irq;
+        }
+        self.proceed(core, now)
     }
 
     fn byte_at(&self, at: u64) -> u8 {

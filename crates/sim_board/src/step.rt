@@ -1,18 +1,22 @@
 //! One step of a core.
-ghost use Rattle.std.specs.Prelude.{◌≡◌, ◌+◌, ◌≤◌, if◌then◌else◌, IsTrue, Some};
+ghost use Rattle.std.specs.Prelude.{◌≡◌, ◌+◌, ◌≤◌, ◌<◌, ℕ, if◌then◌else◌, IsTrue, List, Some};
+ghost use Rattle.bao_types.specs.ListReg.{ListRegData};
 ghost use Rattle.a64_decode.specs.Lawful.{IsLawful};
 ghost use Rattle.a64_execute.specs.Branch.{advanced};
 ghost use Rattle.a64_execute.specs.Want.{wanted, access_asked, bytes_of, IsAccess};
 ghost use Rattle.a64_execute.specs.Finish.{finished};
-ghost use Rattle.board.specs.Attempt.{attempt, checked, effect_of, load_effect, store_effect};
+ghost use Rattle.exceptions.specs.Entry.{entered};
+ghost use Rattle.board.specs.Attempt.{Acknowledged, Ended, takes_irq, attempt, checked, effect_of, load_effect, ran, step_effect, store_effect};
+ghost use Rattle.board.specs.Interrupts.{lines_timed, timed};
 ghost use Rattle.board.specs.Judge.{all_from};
 ghost use Rattle.board.specs.Machine.{port_places};
-ghost use Rattle.board.specs.Ports.{elements_value};
+ghost use Rattle.board.specs.Ports.{PortStates, elements_value};
+ghost use Rattle.gic_core.specs.Lines.{LinesData};
 ghost use Rattle.board.specs.declared.judged.Judged.TheVariants.{Port};
 ghost use Rattle.phys_bank.specs.Banks.{byte_at, is_kept};
 ghost use Rattle.sim_board.specs.Devices.{is_backed};
 ghost use Rattle.sim_board.specs.Reached.{IsContained, reached};
-ghost use Rattle.sim_board.specs.Step.{carried_out, Ends};
+ghost use Rattle.sim_board.specs.Step.{carried_out, Ends, moment_of};
 
 use crate::access::{Way, byte_count, fetch, judge, read_elements, write_elements};
 use crate::devices::Devices;
@@ -22,18 +26,22 @@ use a64_address::MemShape;
 use a64_decode::{Instr, decode};
 use a64_execute::{Need, complete, complete_access, want};
 use a64_state::{Core, pstate};
-use bao_types::Access;
+use a64_sysreg::Moment;
+use bao_types::{Access, ListReg};
 use board::Exit;
-use exceptions::{Class, syndrome};
+use exceptions::{Cause, Class, enter_el1, syndrome};
+use generic_timer::edge;
+use gic_core::Lines;
 use phys_bank::Banks;
 use pmsa_table::Table;
+use vgic_iface::{acknowledge, end, signal};
 
 /// An instruction that was fetched.
 #[derive(Clone, Copy)]
 struct Fetched {
     instr: Instr,
-    /// The system count that the step is handed.
-    count: u64,
+    /// What the step is handed besides its core.
+    moment: Moment,
 }
 
 /// A load or a store that an instruction asks for.
@@ -45,15 +53,27 @@ struct Request<'a> {
     value: u128,
 }
 
-/// Lets a core take a step, at the system count `count`: PC is looked at first, then the fetch is judged, and then PSTATE.IL
-/// is looked at, before the word.
-#[tactic(auto, unfolding(board::specs::Attempt::attempt))]
+/// Looks at the timer of the core with this number at the system count `now`, and raises its line where its level rises.
+#[inline(always)]
+pub(crate) fn look_at_timer(core: &mut Core, lines: &mut Lines, number: u8, now: u64)
+    requires { number < 8 }
+    ensures core { core.new ≡ timed core.old now }
+    ensures lines { lines.new ≡ lines_timed lines.old number core.old now }
+{
+    if edge(&mut core.timer, now) {
+        lines.raise_ppi(number);
+    }
+}
+
+/// Lets a core take a step at the system count `now`, where no line is raised for it: an interrupt that its list registers
+/// signal comes before all else.
 pub(crate) fn step_core<D: Devices>(
     core: &mut Core,
+    lists: &mut [ListReg; 4],
     memory: &mut Banks,
     devices: &mut D,
     table: &mut Table,
-    count: u64,
+    now: u64,
 ) -> Exit
     requires contained { IsContained (is_kept memory.old) table.old (D.spots devices.old) }
     requires room { 2 ≤ D.room devices.old }
@@ -61,10 +81,75 @@ pub(crate) fn step_core<D: Devices>(
     ensures entries { table.new ≡ table.old }
     ensures spots { D.spots devices.new ≡ D.spots devices.old }
     ensures room { D.room devices.old ≤ D.room devices.new + 2 }
-    ensures end { record { core = core.new; bytes = byte_at memory.new; ports = D.states devices.new; exit = result }
+    ensures end { record {
+      core = core.new;
+      lists = lists.new;
+      bytes = byte_at memory.new;
+      ports = D.states devices.new;
+      lines = D.lines devices.new;
+      exit = result;
+    }
         ≡ carried_out
-        (attempt (reached core.old table.old (D.spots devices.old) (D.states devices.old) (byte_at memory.old)) core.old count)
-        (byte_at memory.old) (D.states devices.old) }
+        (step_effect (reached core.old table.old (D.spots devices.old) (D.states devices.old) (byte_at memory.old)) core.old
+        (moment_of core.old lists.old now))
+        lists.old (byte_at memory.old) (D.states devices.old) (D.lines devices.old) }
+{
+    let moment = Moment {
+        count: now,
+        signal: signal(&core.iface, lists),
+    };
+    if takes_irq(core, &moment) {
+        return take_irq(core);
+    }
+    attempt(core, lists, memory, devices, table, &moment)
+}
+
+/// Whether the core takes the interrupt that its interface shows.
+#[inline(always)]
+fn takes_irq(core: &Core, moment: &Moment) -> bool
+    ensures { result ≡ takes_irq core.now moment.now }
+{
+    moment.signal.is_some() && !core.masks_irq()
+}
+
+/// Takes an interrupt at EL1. It stays signalled until the guest acknowledges it.
+#[inline(never)]
+fn take_irq(core: &mut Core) -> Exit
+    ensures { Ends (ran (entered core.old Cause.Irq)) core.new result }
+{
+    enter_el1(core, Cause::Irq);
+    Exit::Ran
+}
+
+/// Attempts the instruction at PC: PC is looked at first, then the fetch is judged, and then PSTATE.IL is looked at, before the
+/// word.
+#[tactic(auto, unfolding(board::specs::Attempt::attempt))]
+#[inline(always)]
+fn attempt<D: Devices>(
+    core: &mut Core,
+    lists: &mut [ListReg; 4],
+    memory: &mut Banks,
+    devices: &mut D,
+    table: &mut Table,
+    moment: &Moment,
+) -> Exit
+    requires contained { IsContained (is_kept memory.old) table.old (D.spots devices.old) }
+    requires room { 2 ≤ D.room devices.old }
+    ensures kept { is_kept memory.new ≡ is_kept memory.old }
+    ensures entries { table.new ≡ table.old }
+    ensures spots { D.spots devices.new ≡ D.spots devices.old }
+    ensures room { D.room devices.old ≤ D.room devices.new + 2 }
+    ensures end { record {
+      core = core.new;
+      lists = lists.new;
+      bytes = byte_at memory.new;
+      ports = D.states devices.new;
+      lines = D.lines devices.new;
+      exit = result;
+    }
+        ≡ carried_out
+        (attempt (reached core.old table.old (D.spots devices.old) (D.states devices.old) (byte_at memory.old)) core.old moment.now)
+        lists.old (byte_at memory.old) (D.states devices.old) (D.lines devices.old) }
 {
     let pc = core.pc;
     if pc % 4 != 0 {
@@ -76,8 +161,11 @@ pub(crate) fn step_core<D: Devices>(
             raise(core, syndrome(Class::IllegalState, 0), None, pc)
         }
         Ok(word) => {
-            let instr = decode(word);
-            execute(core, memory, devices, table, &Fetched { instr, count })
+            let fetched = Fetched {
+                instr: decode(word),
+                moment: *moment,
+            };
+            execute(core, lists, memory, devices, table, &fetched)
         }
     }
 }
@@ -86,6 +174,7 @@ pub(crate) fn step_core<D: Devices>(
 #[inline(always)]
 fn execute<D: Devices>(
     core: &mut Core,
+    lists: &mut [ListReg; 4],
     memory: &mut Banks,
     devices: &mut D,
     table: &mut Table,
@@ -98,41 +187,41 @@ fn execute<D: Devices>(
     ensures entries { table.new ≡ table.old }
     ensures spots { D.spots devices.new ≡ D.spots devices.old }
     ensures room { D.room devices.old ≤ D.room devices.new + 2 }
-    ensures end { record { core = core.new; bytes = byte_at memory.new; ports = D.states devices.new; exit = result }
+    ensures end { record {
+      core = core.new;
+      lists = lists.new;
+      bytes = byte_at memory.new;
+      ports = D.states devices.new;
+      lines = D.lines devices.new;
+      exit = result;
+    }
         ≡ carried_out
         (effect_of (reached core.old table.old (D.spots devices.old) (D.states devices.old) (byte_at memory.old)) core.old
-        fetched.now.count fetched.now.instr (wanted core.old fetched.now.instr))
-        (byte_at memory.old) (D.states devices.old) }
+        fetched.now.moment fetched.now.instr (wanted core.old fetched.now.instr))
+        lists.old (byte_at memory.old) (D.states devices.old) (D.lines devices.old) }
 {
     match want(core, &fetched.instr) {
         Need::Done => finish(core, fetched),
-        Need::Load { shape } => execute_load(
-            core,
-            memory,
-            devices,
-            table,
-            &Request {
+        Need::Acknowledge => finish_acknowledge(core, lists, fetched),
+        Need::End { id } => finish_end(core, lists, fetched, id),
+        Need::Load { shape } => {
+            let request = Request {
                 fetched,
                 shape: &shape,
                 value: 0,
-            },
-        ),
+            };
+            execute_load(core, memory, devices, table, &request)
+        }
         Need::Store { shape, value } => {
-            execute_store(
-                core,
-                memory,
-                devices,
-                table,
-                &Request {
-                    fetched,
-                    shape: &shape,
-                    value,
-                },
-            )
+            let request = Request {
+                fetched,
+                shape: &shape,
+                value,
+            };
+            execute_store(core, memory, devices, table, &request)
         }
         Need::Raise { esr, back } => raise(core, esr, None, back),
         Need::Leave { esr, behind } => leave(core, esr, behind),
-        Need::Unbuilt => Exit::Unbuilt,
     }
 }
 
@@ -151,13 +240,21 @@ fn execute_load<D: Devices>(
     ensures entries { table.new ≡ table.old }
     ensures spots { D.spots devices.new ≡ D.spots devices.old }
     ensures room { D.room devices.old ≤ D.room devices.new + 2 }
-    ensures end { record { core = core.new; bytes = byte_at memory.now; ports = D.states devices.new; exit = result }
+    ensures end { (lists : List ListRegData)
+        → record {
+          core = core.new;
+          lists = lists;
+          bytes = byte_at memory.now;
+          ports = D.states devices.new;
+          lines = D.lines devices.new;
+          exit = result;
+        }
         ≡ carried_out
         (checked core.old request.now.fetched.now.instr request.now.shape.now
-        (load_effect (port_places (D.spots devices.old)) core.old request.now.fetched.now.count request.now.fetched.now.instr request.now.shape.now
+        (load_effect (port_places (D.spots devices.old)) core.old request.now.fetched.now.moment request.now.fetched.now.instr request.now.shape.now
         ((reached core.old table.old (D.spots devices.old) (D.states devices.old) (byte_at memory.now)).loaded
         request.now.shape.now.at request.now.shape.now.width request.now.shape.now.count)))
-        (byte_at memory.now) (D.states devices.old) }
+        lists (byte_at memory.now) (D.states devices.old) (D.lines devices.old) }
 {
     if is_stopped(core, request.shape) {
         return stop(core, &request.fetched.instr, request.shape);
@@ -180,12 +277,20 @@ fn take_load<D: Devices>(
     ensures entries { table.new ≡ table.old }
     ensures spots { D.spots devices.new ≡ D.spots devices.old }
     ensures room { D.room devices.old ≤ D.room devices.new + 2 }
-    ensures end { record { core = core.new; bytes = byte_at memory.now; ports = D.states devices.new; exit = result }
+    ensures end { (lists : List ListRegData)
+        → record {
+          core = core.new;
+          lists = lists;
+          bytes = byte_at memory.now;
+          ports = D.states devices.new;
+          lines = D.lines devices.new;
+          exit = result;
+        }
         ≡ carried_out
-        (load_effect (port_places (D.spots devices.old)) core.old request.now.fetched.now.count request.now.fetched.now.instr request.now.shape.now
+        (load_effect (port_places (D.spots devices.old)) core.old request.now.fetched.now.moment request.now.fetched.now.instr request.now.shape.now
         ((reached core.old table.old (D.spots devices.old) (D.states devices.old) (byte_at memory.now)).loaded
         request.now.shape.now.at request.now.shape.now.width request.now.shape.now.count))
-        (byte_at memory.now) (D.states devices.old) }
+        lists (byte_at memory.now) (D.states devices.old) (D.lines devices.old) }
 {
     match judge(core, table, devices, Access::Read, request.shape) {
         Way::Memory => {
@@ -210,12 +315,20 @@ fn load_port<D: Devices>(
     requires need { access_asked (wanted core.old request.now.fetched.now.instr) ≡ Some request.now.shape.now }
     ensures spots { D.spots devices.new ≡ D.spots devices.old }
     ensures room { D.room devices.old ≤ D.room devices.new + 2 }
-    ensures end { record { core = core.new; bytes = byte_at memory.now; ports = D.states devices.new; exit = result }
+    ensures end { (lists : List ListRegData)
+        → record {
+          core = core.new;
+          lists = lists;
+          bytes = byte_at memory.now;
+          ports = D.states devices.new;
+          lines = D.lines devices.new;
+          exit = result;
+        }
         ≡ carried_out
-        (load_effect (port_places (D.spots devices.old)) core.old request.now.fetched.now.count request.now.fetched.now.instr request.now.shape.now
+        (load_effect (port_places (D.spots devices.old)) core.old request.now.fetched.now.moment request.now.fetched.now.instr request.now.shape.now
         (Port (elements_value (port_places (D.spots devices.old)) (D.states devices.old) (byte_at memory.now)
         request.now.shape.now.at request.now.shape.now.width request.now.shape.now.count)))
-        (byte_at memory.now) (D.states devices.old) }
+        lists (byte_at memory.now) (D.states devices.old) (D.lines devices.old) }
 {
     if is_misaligned(request.shape) {
         return misalign(core, &request.fetched.instr, request.shape);
@@ -242,13 +355,21 @@ fn execute_store<D: Devices>(
     ensures entries { table.new ≡ table.old }
     ensures spots { D.spots devices.new ≡ D.spots devices.old }
     ensures room { D.room devices.old ≤ D.room devices.new + 2 }
-    ensures end { record { core = core.new; bytes = byte_at memory.new; ports = D.states devices.new; exit = result }
+    ensures end { (lists : List ListRegData)
+        → record {
+          core = core.new;
+          lists = lists;
+          bytes = byte_at memory.new;
+          ports = D.states devices.new;
+          lines = D.lines devices.new;
+          exit = result;
+        }
         ≡ carried_out
         (checked core.old request.now.fetched.now.instr request.now.shape.now
-        (store_effect (port_places (D.spots devices.old)) core.old request.now.fetched.now.count request.now.fetched.now.instr request.now.shape.now request.now.value
+        (store_effect (port_places (D.spots devices.old)) core.old request.now.fetched.now.moment request.now.fetched.now.instr request.now.shape.now request.now.value
         ((reached core.old table.old (D.spots devices.old) (D.states devices.old) (byte_at memory.old)).storable
         request.now.shape.now.at request.now.shape.now.width request.now.shape.now.count)))
-        (byte_at memory.old) (D.states devices.old) }
+        lists (byte_at memory.old) (D.states devices.old) (D.lines devices.old) }
 {
     if is_stopped(core, request.shape) {
         return stop(core, &request.fetched.instr, request.shape);
@@ -274,12 +395,20 @@ fn take_store<D: Devices>(
     ensures entries { table.new ≡ table.old }
     ensures spots { D.spots devices.new ≡ D.spots devices.old }
     ensures room { D.room devices.old ≤ D.room devices.new + 2 }
-    ensures end { record { core = core.new; bytes = byte_at memory.new; ports = D.states devices.new; exit = result }
+    ensures end { (lists : List ListRegData)
+        → record {
+          core = core.new;
+          lists = lists;
+          bytes = byte_at memory.new;
+          ports = D.states devices.new;
+          lines = D.lines devices.new;
+          exit = result;
+        }
         ≡ carried_out
-        (store_effect (port_places (D.spots devices.old)) core.old request.now.fetched.now.count request.now.fetched.now.instr request.now.shape.now request.now.value
+        (store_effect (port_places (D.spots devices.old)) core.old request.now.fetched.now.moment request.now.fetched.now.instr request.now.shape.now request.now.value
         ((reached core.old table.old (D.spots devices.old) (D.states devices.old) (byte_at memory.old)).storable
         request.now.shape.now.at request.now.shape.now.width request.now.shape.now.count))
-        (byte_at memory.old) (D.states devices.old) }
+        lists (byte_at memory.old) (D.states devices.old) (D.lines devices.old) }
 {
     match judge(core, table, devices, Access::Write, request.shape) {
         Way::Memory => {
@@ -312,11 +441,19 @@ fn store_port<D: Devices>(
     ensures kept { is_kept memory.new ≡ is_kept memory.old }
     ensures spots { D.spots devices.new ≡ D.spots devices.old }
     ensures room { D.room devices.old ≤ D.room devices.new + 2 }
-    ensures end { record { core = core.new; bytes = byte_at memory.new; ports = D.states devices.new; exit = result }
+    ensures end { (lists : List ListRegData)
+        → record {
+          core = core.new;
+          lists = lists;
+          bytes = byte_at memory.new;
+          ports = D.states devices.new;
+          lines = D.lines devices.new;
+          exit = result;
+        }
         ≡ carried_out
-        (store_effect (port_places (D.spots devices.old)) core.old request.now.fetched.now.count request.now.fetched.now.instr request.now.shape.now request.now.value
+        (store_effect (port_places (D.spots devices.old)) core.old request.now.fetched.now.moment request.now.fetched.now.instr request.now.shape.now request.now.value
         (Port 0))
-        (byte_at memory.old) (D.states devices.old) }
+        lists (byte_at memory.old) (D.states devices.old) (D.lines devices.old) }
 {
     if is_misaligned(request.shape) {
         return misalign(core, &request.fetched.instr, request.shape);
@@ -336,16 +473,47 @@ fn leave(core: &mut Core, esr: u64, behind: bool) -> Exit
     Exit::Sync { esr, far: 0 }
 }
 
-/// Completes an instruction that asked for nothing. None that is built ends an interrupt.
+/// Completes an instruction that asked for nothing.
 fn finish(core: &mut Core, fetched: &Fetched) -> Exit
     requires lawful { IsLawful fetched.now.instr }
     requires need { wanted core.old fetched.now.instr ≡ Need.Done }
-    ensures core { core.new ≡ finished core.old fetched.now.count fetched.now.instr 0 }
+    ensures core { core.new ≡ finished core.old fetched.now.moment fetched.now.instr 0 }
     ensures exit { result ≡ Exit.Ran }
 {
-    match complete(core, fetched.count, &fetched.instr) {
-        None => Exit::Ran,
-        Some(_) => unreachable!(),
+    complete(core, fetched.moment, &fetched.instr);
+    Exit::Ran
+}
+
+/// Completes a read that takes the interrupt that its moment shows, if it shows one.
+#[inline(never)]
+fn finish_acknowledge(core: &mut Core, lists: &mut [ListReg; 4], fetched: &Fetched) -> Exit
+    requires lawful { IsLawful fetched.now.instr }
+    requires need { wanted core.old fetched.now.instr ≡ Need.Acknowledge }
+    ensures { (bytes : ℕ → ℕ) (ports : PortStates) (lines : LinesData)
+        → record { core = core.new; lists = lists.new; bytes = bytes; ports = ports; lines = lines; exit = result }
+        ≡ carried_out (record (ran (finished core.old fetched.now.moment fetched.now.instr 0)) { outcome = Acknowledged })
+        lists.old bytes ports lines }
+{
+    complete(core, fetched.moment, &fetched.instr);
+    acknowledge(&mut core.iface, lists);
+    Exit::Ran
+}
+
+/// Completes a write that ends an interrupt. Where no list register has it, the rest of its end is left to EL2.
+#[inline(never)]
+fn finish_end(core: &mut Core, lists: &mut [ListReg; 4], fetched: &Fetched, id: u16) -> Exit
+    requires lawful { IsLawful fetched.now.instr }
+    requires need { wanted core.old fetched.now.instr ≡ Need.End id }
+    ensures { (bytes : ℕ → ℕ) (ports : PortStates) (lines : LinesData)
+        → record { core = core.new; lists = lists.new; bytes = bytes; ports = ports; lines = lines; exit = result }
+        ≡ carried_out (record (ran (finished core.old fetched.now.moment fetched.now.instr 0)) { outcome = Ended id })
+        lists.old bytes ports lines }
+{
+    complete(core, fetched.moment, &fetched.instr);
+    if end(&mut core.iface, lists, id) {
+        Exit::Ran
+    } else {
+        Exit::End { id }
     }
 }
 
@@ -354,12 +522,12 @@ fn finish(core: &mut Core, fetched: &Fetched) -> Exit
 fn finish_access(core: &mut Core, request: &Request<'_>, got: u128) -> Exit
     requires lawful { IsLawful request.now.fetched.now.instr }
     requires need { access_asked (wanted core.old request.now.fetched.now.instr) ≡ Some request.now.shape.now }
-    ensures core { core.new ≡ finished core.old request.now.fetched.now.count request.now.fetched.now.instr got }
+    ensures core { core.new ≡ finished core.old request.now.fetched.now.moment request.now.fetched.now.instr got }
     ensures exit { result ≡ Exit.Ran }
 {
     complete_access(
         core,
-        request.fetched.count,
+        request.fetched.moment,
         &request.fetched.instr,
         request.shape,
         got,

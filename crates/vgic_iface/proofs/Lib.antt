@@ -1,2 +1,2 @@
-pub mod ListsLemmas
 pub mod LeastLemmas
+pub mod ListsLemmas

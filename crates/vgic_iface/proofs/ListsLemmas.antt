@@ -1,14 +1,14 @@
 -- The first register in which an id stands, and a change of it.
-use Rattle.std.proofs.Common.{◌≡◌, ℕ, zero, suc, ◌+◌, ◌<◌, ◌≤◌, Bool, true, false, cond, if◌then◌else◌, List, [], ◌∷◌, length, get_or, set, take, Option, Some, None, find, refl, sym, ap, subst, ◌∙◌, arith, min, ◌⊎◌, inl, inr}
+use Rattle.std.proofs.Common.{◌≡◌, ℕ, zero, suc, ◌+◌, ◌<◌, ◌≤◌, Bool, true, false, not, ◌&&◌, cond, if◌then◌else◌, List, [], ◌∷◌, length, get_or, set, take, Option, Some, None, find, refl, sym, ap, subst, ◌∙◌, arith, min, ◌⊎◌, inl, inr}
 use Rattle.std.specs.Prelude.{unwrap_or}
 use Rattle.std.proofs.lemmas.List.{take_more, get_or_default}
 use Rattle.std.proofs.lemmas.Bool.Decides.{nat_tests}
 use Rattle.std.proofs.Math.Seq.{take-length}
-use Rattle.std.proofs.Math.Nat.{le_antisymm}
+use Rattle.std.proofs.Math.Nat.{le_antisymm, le_trans}
 use Rattle.std.proofs.lemmas.List.Folds.{find-append}
 use Rattle.bao_types.specs.ListReg.{ListRegData}
 use Rattle.vgic_iface.specs.Rank.{no_rank}
-use Rattle.vgic_iface.specs.Interface.{holds, listed_rank, with_holder}
+use Rattle.vgic_iface.specs.Interface.{holds, listed_rank, rank_by, with_holder}
 
 -- no element up to the next one passes
 pub find_none-more : {X : Type 0} (p : X → Bool) (xs : List X) (i : ℕ) (x : X) → i < length xs → x ≡ get_or xs i x →
@@ -92,32 +92,40 @@ find-found p (y ∷ ys) x is = by_test (p y) refl is (λ later. find-found p ys 
 pub holds-id : (id : ℕ) (list : ListRegData) → holds id list ≡ true → list.id ≡ id
 holds-id id list on = grind (arith, nat_tests)
 
--- a number that is no greater than the ranks of the ids of all registers is no greater than that of any id
+-- a number that is no greater than what each register adds is no greater than the rank of any id
 pub le_listed_rank : (lists : List ListRegData) (bound : ℕ) → bound ≤ no_rank →
-    ((k : ℕ) (d : ListRegData) → k < length lists → bound ≤ listed_rank lists (get_or lists k d).id) →
+    ((k : ℕ) (d : ListRegData) → k < length lists → bound ≤ rank_by lists (get_or lists k d)) →
     (id : ℕ) → bound ≤ listed_rank lists id
 le_listed_rank lists bound top below id = by_cases (find (holds id) lists) refl
   where
+    by_test : (list : ListRegData) (test : Bool) → (list.pending && not list.active) ≡ test → find (holds id) lists ≡ Some list →
+        bound ≤ (if test then listed_rank lists list.id else no_rank) → list.id ≡ id → bound ≤ listed_rank lists id
+    by_test list true pending is low same = subst (λ n. bound ≤ listed_rank lists n) same low
+    by_test list false pending is low same = rw (is, pending) top
+
     by_cases : (found : Option ListRegData) → find (holds id) lists ≡ found → bound ≤ listed_rank lists id
     by_cases None is = rw is top
     by_cases (Some list) is =
         let at = find-found (holds id) lists list is in
-        let same : (get_or lists at.0 list).id ≡ id = ap (λ (r : ListRegData). r.id) at.2 ∙ holds-id id list at.3 in
-        subst (λ n. bound ≤ listed_rank lists n) same (below at.0 list at.1)
+        let low : bound ≤ rank_by lists list = subst (λ r. bound ≤ rank_by lists r) at.2 (below at.0 list at.1) in
+        by_test list (list.pending && not list.active) refl is low (holds-id id list at.3)
 
 -- one more register is looked at
 pub below-more : (lists : List ListRegData) (i : ℕ) (list : ListRegData) (best next : ℕ) →
-    i < length lists → list ≡ get_or lists i list → next ≡ min best (listed_rank lists list.id) →
-    ((k : ℕ) (d : ListRegData) → k < i → best ≤ listed_rank lists (get_or lists k d).id) →
-    (k : ℕ) (d : ListRegData) → k < i + 1 → next ≤ listed_rank lists (get_or lists k d).id
+    i < length lists → list ≡ get_or lists i list → next ≡ min best (rank_by lists list) →
+    ((k : ℕ) (d : ListRegData) → k < i → best ≤ rank_by lists (get_or lists k d)) →
+    (k : ℕ) (d : ListRegData) → k < i + 1 → next ≤ rank_by lists (get_or lists k d)
 below-more lists i list best next within is least below k d before = by_place (lt_cases k i before)
   where
     lt_cases : (k i : ℕ) → k < i + 1 → (k < i) ⊎ (k ≡ i)
     lt_cases k i before = grind arith
 
-    by_place : (k < i) ⊎ (k ≡ i) → next ≤ listed_rank lists (get_or lists k d).id
-    by_place (inl earlier) = omega (arith, least, below k d earlier)
+    lower : (a b c : ℕ) → c ≡ min a b → (c ≤ a) × (c ≤ b)
+    lower a b c is = (omega arith, omega arith)
+
+    by_place : (k < i) ⊎ (k ≡ i) → next ≤ rank_by lists (get_or lists k d)
+    by_place (inl earlier) = le_trans (lower best (rank_by lists list) next least).0 (below k d earlier)
     by_place (inr same) =
-        subst (λ (r : ListRegData). next ≤ listed_rank lists r.id)
+        subst (λ (r : ListRegData). next ≤ rank_by lists r)
         (is ∙ get_or_default lists i list d within ∙ ap (λ n. get_or lists n d) (sym same))
-        (omega (arith, least))
+        (lower best (rank_by lists list) next least).1

@@ -1,21 +1,25 @@
-ghost use Rattle.std.specs.Prelude.{◌≡◌, ◌<◌, not, unwrap_or};
+ghost use Rattle.std.specs.Prelude.{◌≡◌, ◌<◌, not};
 ghost use Rattle.vgic_iface.specs.Active.{running, with_priority, without_running};
-ghost use Rattle.vgic_iface.specs.Interface.{acknowledged, ended, is_signalled, is_unlisted, listed_signal, no_interrupt};
+ghost use Rattle.vgic_iface.specs.Interface.{acknowledged, best_listed, ended, is_signalled, is_unlisted, listed_signal, lists_acknowledged, lists_ended};
 
-use crate::lists::{best, make_active, make_inactive};
-use bao_types::IfaceRegs;
+use crate::lists::{best_listed, make_active, make_inactive};
+use bao_types::{IfaceRegs, ListReg};
 
-/// What an acknowledgement answers where no interrupt is signalled.
+/// What ICC_IAR1_EL1 reads where no interrupt is signalled.
 pub const NO_INTERRUPT: u16 = 1023;
 
 /// The ids of a virtual core's interrupts lie below this.
 const ID_END: u16 = 96;
 
 /// The interrupt that the core may take, by its list registers. None exactly where no listed id may be taken.
-pub fn signal(iface: &IfaceRegs) -> Option<u16>
-    ensures { result ≡ listed_signal iface.now }
+pub fn signal(iface: &IfaceRegs, lists: &[ListReg; 4]) -> Option<u16>
+    ensures { result ≡ listed_signal iface.now lists.now }
 {
-    let best = best(&iface.lists);
+    // Asked before every step of a core, of which most have the group off or nothing pending.
+    if !iface.group {
+        return None;
+    }
+    let best = best_listed(lists);
     if is_signalled(iface, best) {
         Some(best % 128)
     } else {
@@ -24,33 +28,35 @@ pub fn signal(iface: &IfaceRegs) -> Option<u16>
 }
 
 /// Takes the interrupt that is signalled: it becomes active and is pending no longer, and its priority becomes active.
-/// Where there is none the answer is 1023, and nothing changes (ICC_IAR1_EL1).
-pub fn acknowledge(iface: &mut IfaceRegs) -> u16
-    ensures value { result ≡ unwrap_or (listed_signal iface.old) no_interrupt }
-    ensures after { iface.new ≡ acknowledged iface.old }
+/// Where there is none the answer is None, and nothing changes (ICC_IAR1_EL1).
+pub fn acknowledge(iface: &mut IfaceRegs, lists: &mut [ListReg; 4]) -> Option<u16>
+    ensures value { result ≡ listed_signal iface.old lists.old }
+    ensures after { iface.new ≡ acknowledged iface.old (best_listed lists.old) }
+    ensures lists { lists.new ≡ lists_acknowledged iface.old lists.old }
 {
-    let best = best(&iface.lists);
+    let best = best_listed(lists);
     if !is_signalled(iface, best) {
-        return NO_INTERRUPT;
+        return None;
     }
     let id = best % 128;
-    make_active(&mut iface.lists, id);
+    make_active(lists, id);
     iface.active = with_priority(iface.active, best / 128);
-    id
+    Some(id)
 }
 
 /// Ends an interrupt: the running priority is active no longer, nor is the id. An id of 96 or more changes nothing
 /// (ICC_EOIR1_EL1). False exactly where the id is below 96 and stands in no list register; its end in the table is then
 /// still to come.
-pub fn end(iface: &mut IfaceRegs, id: u16) -> bool
-    ensures found { result ≡ not (is_unlisted iface.old.lists id) }
+pub fn end(iface: &mut IfaceRegs, lists: &mut [ListReg; 4], id: u16) -> bool
+    ensures found { result ≡ not (is_unlisted lists.old id) }
     ensures after { iface.new ≡ ended iface.old id }
+    ensures lists { lists.new ≡ lists_ended lists.old id }
 {
     if id >= ID_END {
         return true;
     }
     iface.active = without_running(iface.active);
-    make_inactive(&mut iface.lists, id)
+    make_inactive(lists, id)
 }
 
 /// The running priority: the least active one, 0xFF where there is none (ICC_RPR_EL1).

@@ -7,6 +7,7 @@
 
 pub use interface::{NO_INTERRUPT, acknowledge, end, running, signal};
 pub use law::laws_of_the_interface;
+pub use lists::best_listed;
 
 mod interface;
 mod law;

@@ -1,5 +1,5 @@
 ghost use Rattle.std.specs.Prelude.{◌≡◌, ◌≤◌, ◌<◌, is_some, find};
-ghost use Rattle.vgic_iface.specs.Interface.{best_listed, holds, listed_rank, made_active, made_inactive, rank_in, with_holder};
+ghost use Rattle.vgic_iface.specs.Interface.{best_listed, holds, listed_rank, made_active, made_inactive, rank_by, rank_in, with_holder};
 
 use bao_types::ListReg;
 
@@ -38,14 +38,27 @@ fn listed_rank(lists: &[ListReg], id: u16) -> u16
     NO_RANK
 }
 
-/// The best rank in the registers.
-pub(crate) fn best(lists: &[ListReg]) -> u16
+/// What a register adds to the search for the best rank: where it has something to take itself, the rank of its id.
+fn rank_by(lists: &[ListReg], list: &ListReg) -> u16
+    ensures value { result ≡ rank_by lists.now list.now }
+    ensures above { best_listed lists.now ≤ result }
+    ensures bound { result ≤ 32768 }
+{
+    if list.pending && !list.active {
+        listed_rank(lists, list.id)
+    } else {
+        NO_RANK
+    }
+}
+
+/// The best rank in the registers: a priority times 128, plus an id; 32768 where there is nothing to take.
+pub fn best_listed(lists: &[ListReg; 4]) -> u16
     ensures value { result ≡ best_listed lists.now }
     ensures bound { result ≤ 32768 }
 {
     let mut best = NO_RANK;
     for list in lists {
-        best = best.min(listed_rank(lists, list.id));
+        best = best.min(rank_by(lists, list));
     }
     best
 }

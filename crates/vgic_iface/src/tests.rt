@@ -1,4 +1,4 @@
-use crate::{acknowledge, end, running, signal};
+use crate::{NO_INTERRUPT, acknowledge, end, running, signal};
 use bao_types::{IfaceRegs, ListReg};
 use std::process::Abort;
 
@@ -24,12 +24,21 @@ fn register(listed: &Listed) -> ListReg {
     }
 }
 
-fn interface(pmr: u8, lists: &[Listed; 4]) -> IfaceRegs {
+/// The interface of a core, and its list registers.
+#[derive(Drop)]
+struct Core {
+    iface: IfaceRegs,
+    lists: [ListReg; 4],
+}
+
+fn core_with(pmr: u8, lists: &[Listed; 4]) -> Core {
     let [first, second, third, fourth] = lists;
-    IfaceRegs {
-        pmr: pmr / 8 * 8,
-        group: true,
-        active: 0,
+    Core {
+        iface: IfaceRegs {
+            pmr: pmr / 8 * 8,
+            group: true,
+            active: 0,
+        },
         lists: [
             register(first),
             register(second),
@@ -46,6 +55,7 @@ enum Call {
     /// Whether Group 1 interrupts are enabled.
     Group(bool),
     Signal(Option<u16>),
+    /// The id, or 1023 where there is none.
     Acknowledge(u16),
     /// The id, and whether nothing is left to do for it.
     End(u16, bool),
@@ -55,21 +65,24 @@ enum Call {
 use Call::{Acknowledge, End, Group, Mask, Running, Signal};
 
 /// Whether the call answers as it is to.
-fn is_met(iface: &mut IfaceRegs, call: &Call) -> bool {
+fn is_met(core: &mut Core, call: &Call) -> bool {
+    let Core { iface, lists } = core;
     match *call {
         Mask(pmr) => iface.pmr = pmr / 8 * 8,
         Group(on) => iface.group = on,
-        Signal(wanted) => return signal(iface) == wanted,
-        Acknowledge(wanted) => return acknowledge(iface) == wanted,
-        End(id, wanted) => return end(iface, id) == wanted,
+        Signal(wanted) => return signal(iface, lists) == wanted,
+        Acknowledge(wanted) => {
+            return acknowledge(iface, lists).unwrap_or(NO_INTERRUPT) == wanted;
+        }
+        End(id, wanted) => return end(iface, lists, id) == wanted,
         Running(wanted) => return running(iface) == wanted,
     }
     true
 }
 
-fn check(rt: &impl Abort, iface: &mut IfaceRegs, row: &(&str, Call)) {
+fn check(rt: &impl Abort, core: &mut Core, row: &(&str, Call)) {
     let (shows, call) = row;
-    assert!(rt; is_met(iface, call), "{shows}");
+    assert!(rt; is_met(core, call), "{shows}");
 }
 
 #[rattlefmt::skip]
@@ -91,7 +104,7 @@ static IN_ORDER: [(&str, Call); 12] = [
 
 #[test]
 fn by_priority_and_id(rt: HostRuntime) {
-    let mut iface = interface(
+    let mut core = core_with(
         0xf8,
         &[
             (42, 0x20, PENDING),
@@ -101,7 +114,7 @@ fn by_priority_and_id(rt: HostRuntime) {
         ],
     );
     for row in IN_ORDER.as_slice() {
-        check(&rt, &mut iface, row);
+        check(&rt, &mut core, row);
     }
 }
 
@@ -126,7 +139,7 @@ static MASKED: [(&str, Call); 14] = [
 
 #[test]
 fn the_mask_and_the_group(rt: HostRuntime) {
-    let mut iface = interface(
+    let mut core = core_with(
         0,
         &[
             (33, 0x08, BOTH),
@@ -136,7 +149,7 @@ fn the_mask_and_the_group(rt: HostRuntime) {
         ],
     );
     for row in MASKED.as_slice() {
-        check(&rt, &mut iface, row);
+        check(&rt, &mut core, row);
     }
 }
 
@@ -161,9 +174,9 @@ static ENDS: [(&str, Call); 14] = [
 
 #[test]
 fn ends_of_all_kinds(rt: HostRuntime) {
-    let mut iface = interface(0xf8, &[FREE, (64, 0x40, PENDING), (31, 0x08, ACTIVE), FREE]);
+    let mut core = core_with(0xf8, &[FREE, (64, 0x40, PENDING), (31, 0x08, ACTIVE), FREE]);
     for row in ENDS.as_slice() {
-        check(&rt, &mut iface, row);
+        check(&rt, &mut core, row);
     }
 }
 
@@ -185,15 +198,15 @@ static NESTED: [(&str, Call); 11] = [
 
 #[test]
 fn nested_and_twice(rt: HostRuntime) {
-    let mut iface = interface(
+    let mut core = core_with(
         0xf8,
         &[(63, 0x80, PENDING), (63, 0x10, PENDING), FREE, FREE],
     );
     for (place, row) in NESTED.as_slice().iter().enumerate() {
         if place == 3 {
             // one more becomes pending once the first runs
-            iface.lists[2] = register(&(32, 0x18, PENDING));
+            core.lists[2] = register(&(32, 0x18, PENDING));
         }
-        check(&rt, &mut iface, row);
+        check(&rt, &mut core, row);
     }
 }

@@ -1,17 +1,17 @@
 -- What `registers` and `left_by_registers` have in common with the table that they come from.
-use Rattle.std.proofs.Common.{◌≡◌, ℕ, zero, suc, ◌+◌, ◌<◌, ◌≤◌, ◌*◌, ◌/◌, ◌%◌, nat_lt, min, ◌==◌, Bool, true, false, cond, ◌&&◌, if◌then◌else◌, List, Some, None, find, refl, sym, ap, subst, ◌∙◌, arith}
+use Rattle.std.proofs.Common.{◌≡◌, ℕ, zero, suc, ◌+◌, ◌<◌, ◌≤◌, ◌*◌, ◌/◌, ◌%◌, nat_lt, min, ◌==◌, Bool, true, false, cond, ◌&&◌, if◌then◌else◌, Some, None, find, refl, sym, ap, subst, ◌∙◌, arith}
 use Rattle.std.specs.Option.{option_map_or}
 use Rattle.std.proofs.lemmas.Bool.{false≢true}
 use Rattle.std.proofs.lemmas.Bool.Decides.{nat_tests}
 use Rattle.std.proofs.Math.Nat.{le_antisymm}
-use Rattle.bao_types.specs.ListReg.{ListRegData, is_free}
+use Rattle.bao_types.specs.ListReg.{ListRegData, free_register, is_free}
 use Rattle.vgic_iface.specs.Rank.{id_end, id_of, no_rank, priority_of}
 use Rattle.vgic_iface.specs.Interface.{best_listed, holds, listed_rank, rank_in}
 use Rattle.vgic_iface.proofs.LeastLemmas.{least_le, least_le_none}
 use Rattle.vgic_table.specs.declared.id_state.IdState.{IdState}
 use Rattle.vgic_table.specs.Interrupts.{Interrupts, belongs, best, state_of}
 use Rattle.vgic_table.specs.Changes.{with_state}
-use Rattle.vgic_table.specs.Registers.{Fits, Tidy, free_register, joined, left_by_registers, put_back, register_for, registers, without_best}
+use Rattle.vgic_table.specs.Registers.{Fits, Tidy, joined, left_by_registers, put_back, register_for, registers, without_best}
 use Rattle.vgic_table.specs.Shape.{IsShaped}
 use Rattle.vgic_table.proofs.StateLemmas.{change-same, change_at, shaped-with, state-other, state-same, true_same, false_other, with-own}
 use Rattle.vgic_table.proofs.RankLemmas.{Passes, all_pass, best-found}
@@ -35,7 +35,7 @@ keeps-same old new core id on is =
       pending = λ quiet. ap (λ (s : IdState). s.pending) is ∙ quiet;
     }
 
-abbrev off : IdState → IdState
+abbrev pub off : IdState → IdState
 off state = record state { pending = false }
 
 keeps-off : (old new : Interrupts) (core id : ℕ) → new.on ≡ old.on → state_of new core id ≡ off (state_of old core id) → Keeps old new core id
@@ -48,7 +48,7 @@ keeps-off old new core id on is =
       pending = λ _. ap (λ (s : IdState). s.pending) is;
     }
 
-below_none : (best : ℕ) → nat_lt best no_rank ≡ true → best < no_rank
+pub below_none : (best : ℕ) → nat_lt best no_rank ≡ true → best < no_rank
 below_none best is = grind (arith, nat_tests)
 
 not_below_none : (best : ℕ) → nat_lt best no_rank ≡ false → no_rank ≤ best
@@ -194,19 +194,18 @@ module _ (core : ℕ) (below : core < 8) where
   shaped-all zero vm shaped = shaped
   shaped-all (suc count) vm shaped = shaped-all count (without_best vm core (best vm core)) (shaped-step vm shaped)
 
+  -- what the core may take is the better of what is left and what the registers have
+  together-all : (count : ℕ) (vm : Interrupts) → IsShaped vm →
+      best vm core ≡ min (best (left_by_registers count vm core) core) (best_listed (registers count vm core))
+  together-all count vm shaped =
+      ap (λ other. best other core) (sym (joined-all count vm shaped))
+      ∙ best-joined (left_by_registers count vm core) core (registers count vm core) below (shaped-all count vm shaped) (tidy-all count vm shaped)
+
   -- the best id stands in a register
   pub best-all : (count : ℕ) (vm : Interrupts) → IsShaped vm → best_listed (registers (suc count) vm core) ≡ best vm core
   best-all count vm shaped =
-      le_antisymm (by_test (nat_lt (best vm core) no_rank) refl) (omega (arith, together))
+      le_antisymm (by_test (nat_lt (best vm core) no_rank) refl) (omega (arith, together-all (suc count) vm shaped))
     where
-      lists : List ListRegData
-      lists = registers (suc count) vm core
-
-      together : best vm core ≡ min (best (left_by_registers (suc count) vm core) core) (best_listed (registers (suc count) vm core))
-      together =
-          ap (λ other. best other core) (sym (joined-all (suc count) vm shaped))
-          ∙ best-joined (left_by_registers (suc count) vm core) core (registers (suc count) vm core) below (shaped-all (suc count) vm shaped) (tidy-all (suc count) vm shaped)
-
       joins : (n : ℕ) → 128 * (n / 128) + n % 128 ≡ n
       joins n = omega arith
 
@@ -230,3 +229,8 @@ module _ (core : ℕ) (below : core < 8) where
           let some : best vm core < no_rank = below_none (best vm core) is in
           subst (λ n. best_listed (registers (suc count) vm core) ≤ n) (first (nat_lt (best vm core) no_rank) refl is)
           (least_le (listed_rank (registers (suc count) vm core)) id_end (id_of (best vm core)) (best-found vm core some).within)
+
+  -- no id that is left comes before it
+  pub listed-all : (count : ℕ) (vm : Interrupts) → IsShaped vm →
+      best_listed (registers (suc count) vm core) ≤ best (left_by_registers (suc count) vm core) core
+  listed-all count vm shaped = omega (arith, together-all (suc count) vm shaped, best-all count vm shaped)

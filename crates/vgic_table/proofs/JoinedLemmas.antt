@@ -35,7 +35,7 @@ unfolding is_none
 none_some x is = absurd (subst is_none is tt)
 
 -- the rank of an id in this state
-abbrev rank_of : Bool → Bool → ℕ → IdState → ℕ
+abbrev pub rank_of : Bool → Bool → ℕ → IdState → ℕ
 rank_of on owned id state = if on && owned && state.enabled && state.pending && not state.active then rank state.priority id else no_rank
 
 module _ (vm : Interrupts) (core : ℕ) where
@@ -56,6 +56,16 @@ module _ (vm : Interrupts) (core : ℕ) where
       by_test : (free : Bool) → (joined vm core lists).on ≡ vm.on →
           (if free then joined vm core lists
           else with_state (joined vm core lists) core list.id (record (state_of (joined vm core lists) core list.id) { pending = list.pending; active = list.active })).on ≡ vm.on
+      by_test true rest = rest
+      by_test false rest = rest
+
+  pub cores-joined : (lists : List ListRegData) → (joined vm core lists).cores ≡ vm.cores
+  cores-joined [] = refl
+  cores-joined (list ∷ lists) = by_test (is_free list) (cores-joined lists)
+    where
+      by_test : (free : Bool) → (joined vm core lists).cores ≡ vm.cores →
+          (if free then joined vm core lists
+          else with_state (joined vm core lists) core list.id (record (state_of (joined vm core lists) core list.id) { pending = list.pending; active = list.active })).cores ≡ vm.cores
       by_test true rest = rest
       by_test false rest = rest
 

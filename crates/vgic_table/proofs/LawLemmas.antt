@@ -1,23 +1,24 @@
 -- Acknowledgement and end, by list registers and by all interrupts.
-use Rattle.std.proofs.Common.{◌≡◌, ℕ, ◌+◌, ◌*◌, ◌/◌, ◌%◌, ◌<◌, nat_lt, min, Bool, true, false, not, ◌&&◌, if◌then◌else◌, List, Option, Some, None, find, refl, ap, subst, ◌∙◌, arith, ◌⊎◌, inl, inr}
-use Rattle.std.specs.Prelude.{is_some}
+use Rattle.std.proofs.Common.{◌≡◌, ℕ, ◌+◌, ◌*◌, ◌/◌, ◌%◌, ◌<◌, ◌≤◌, nat_lt, min, Bool, true, false, not, ◌&&◌, if◌then◌else◌, List, Option, Some, None, find, refl, ap, sym, subst, ◌∙◌, arith, ◌⊎◌, inl, inr}
 use Rattle.std.specs.Option.{option_map_or}
 use Rattle.std.proofs.lemmas.Bool.{false≢true}
 use Rattle.std.proofs.lemmas.Bool.Decides.{nat_tests}
 use Rattle.bao_types.specs.ListReg.{ListRegData}
 use Rattle.bao_types.specs.IfaceRegs.{IfaceData}
-use Rattle.vgic_iface.specs.Active.{running, with_priority}
-use Rattle.vgic_iface.specs.Rank.{id_end, id_of, no_rank, priority_of, rank}
-use Rattle.vgic_iface.specs.Interface.{best_listed, holds, is_signalled, listed_rank, made_active, rank_in, signalled, with_holder}
+use Rattle.vgic_iface.specs.Active.{running}
+use Rattle.vgic_iface.specs.Rank.{id_end, id_of, no_rank, rank}
+use Rattle.vgic_iface.specs.Interface.{acknowledged, best_listed, holds, is_signalled, listed_rank, made_active, rank_in, signalled, with_holder}
 use Rattle.vgic_iface.specs.Interface.{made_inactive as list_inactive}
 use Rattle.vgic_iface.proofs.LeastLemmas.{least-found}
 use Rattle.vgic_iface.proofs.ListsLemmas.{with_holder-none}
 use Rattle.vgic_table.specs.Interrupts.{Interrupts, best}
 use Rattle.vgic_table.specs.Changes.{made_inactive, taken}
-use Rattle.vgic_table.specs.Registers.{Tidy, joined}
+use Rattle.vgic_table.specs.Registers.{Tidy, is_due, joined}
 use Rattle.vgic_table.specs.Shape.{BestIsListed, IsShaped}
-use Rattle.vgic_table.specs.Laws.{Acknowledges, Ends}
-use Rattle.vgic_table.proofs.JoinedLemmas.{best-joined, tidy-found}
+use Rattle.vgic_table.specs.Laws.{Acknowledges, Ends, Refills}
+use Rattle.vgic_table.proofs.JoinedLemmas.{best-joined, shaped-joined, tidy-found}
+use Rattle.vgic_table.proofs.FillLemmas.{joined-all, listed-all, tidy-all}
+use Rattle.vgic_table.proofs.TidyLemmas.{made_active-keeps, made_inactive-keeps, tidy-holder, tidy-unlisted}
 use Rattle.vgic_table.proofs.HolderLemmas.{joined-change, joined-holder, made_active-changes, made_inactive-changes}
 
 -- the register in which the best id stands
@@ -67,42 +68,85 @@ below_none iface best small on = by_group iface.group on
     by_group true is = lower iface.pmr (running iface.active) small (less_of (best / 128) (min iface.pmr (running iface.active)) is)
     by_group false is = absurd (false≢true is)
 
-module _ (vm : Interrupts) (core : ℕ) (below : core < 8) (shaped : IsShaped vm) (iface : IfaceData) (tidy : Tidy vm core iface.lists) where
-  pub acknowledges : iface.pmr < 256 → BestIsListed vm core iface.lists → Acknowledges vm core iface
-  acknowledges small listed =
+module _ (vm : Interrupts) (core : ℕ) (below : core < 8) (shaped : IsShaped vm) (lists : List ListRegData) (tidy : Tidy vm core lists) where
+  -- what the core may take is the best in the registers, where that comes first
+  pub best-listed : BestIsListed vm core lists → best (joined vm core lists) core ≡ best_listed lists
+  best-listed listed = omega (arith, best-joined vm core lists below shaped tidy, listed)
+
+  pub acknowledges : (iface : IfaceData) → iface.pmr < 256 → BestIsListed vm core lists → Acknowledges vm core iface lists
+  acknowledges iface small listed =
       record {
         value = ap (signalled iface) same;
-        active = ap (λ b. if is_signalled iface b then with_priority iface.active (priority_of b) else iface.active) same;
+        interface = ap (acknowledged iface) same;
         after =
-            by_test (is_signalled iface (best_listed iface.lists)) refl
-            ∙ ap (λ b. if is_signalled iface b then taken (joined vm core iface.lists) core (id_of b) else joined vm core iface.lists) same;
+            by_test (is_signalled iface (best_listed lists)) refl
+            ∙ ap (λ b. if is_signalled iface b then taken (joined vm core lists) core (id_of b) else joined vm core lists) same;
+        tidy = by_kind (is_signalled iface (best_listed lists));
       }
     where
-      same : best_listed iface.lists ≡ best (joined vm core iface.lists) core
-      same = omega (arith, best-joined vm core iface.lists below shaped tidy, listed)
+      same : best_listed lists ≡ best (joined vm core lists) core
+      same = sym (best-listed listed)
 
-      by_test : (test : Bool) → is_signalled iface (best_listed iface.lists) ≡ test →
-          joined vm core (if test then with_holder made_active (id_of (best_listed iface.lists)) iface.lists else iface.lists)
-          ≡ (if test then taken (joined vm core iface.lists) core (id_of (best_listed iface.lists)) else joined vm core iface.lists)
+      by_test : (test : Bool) → is_signalled iface (best_listed lists) ≡ test →
+          joined vm core (if test then with_holder made_active (id_of (best_listed lists)) lists else lists)
+          ≡ (if test then taken (joined vm core lists) core (id_of (best_listed lists)) else joined vm core lists)
       by_test true is =
-          let at = holder vm core iface.lists tidy (below_none iface (best_listed iface.lists) small is) in
-          joined-holder vm core iface.lists (id_of (best_listed iface.lists)) made_active (λ state. record state { pending = false; active = true })
-          below at.within shaped tidy at.list at.found (made_active-changes core (id_of (best_listed iface.lists)) below at.within)
+          let at = holder vm core lists tidy (below_none iface (best_listed lists) small is) in
+          joined-holder vm core lists (id_of (best_listed lists)) made_active (λ state. record state { pending = false; active = true })
+          below at.within shaped tidy at.list at.found (made_active-changes core (id_of (best_listed lists)) below at.within)
       by_test false is = refl
 
-  pub ends : (id : ℕ) → Ends vm core iface id
-  ends id = by_tests (nat_lt id id_end) (find (holds id) iface.lists) refl refl
+      by_kind : (test : Bool) → Tidy vm core (if test then with_holder made_active (id_of (best_listed lists)) lists else lists)
+      by_kind true = tidy-holder vm core lists (id_of (best_listed lists)) made_active made_active-keeps tidy
+      by_kind false = tidy
+
+  pub ends : (id : ℕ) → Ends vm core lists id
+  ends id = by_tests (nat_lt id id_end) (find (holds id) lists) refl refl
     where
       within_of : (id : ℕ) → nat_lt id 96 ≡ true → id < 96
       within_of id is = grind (arith, nat_tests)
 
-      by_tests : (test : Bool) (found : Option ListRegData) → nat_lt id id_end ≡ test → find (holds id) iface.lists ≡ found →
-          joined (if test && not (is_some found) then made_inactive vm core id else vm) core (if test then with_holder list_inactive id iface.lists else iface.lists)
-          ≡ (if test then made_inactive (joined vm core iface.lists) core id else joined vm core iface.lists)
-      by_tests false found is at = refl
+      by_tests : (test : Bool) (found : Option ListRegData) → nat_lt id id_end ≡ test → find (holds id) lists ≡ found → Ends vm core lists id
+      by_tests false found is at =
+          record { after = rw is refl; tidy = rw is tidy }
       by_tests true None is at =
-          ap (joined (made_inactive vm core id) core) (with_holder-none list_inactive id iface.lists at)
-          ∙ joined-change vm core iface.lists id (λ state. record state { active = false }) below at
+          record {
+            after =
+                rw (is, at)
+                (ap (joined (made_inactive vm core id) core) (with_holder-none list_inactive id lists at)
+                ∙ joined-change vm core lists id (λ state. record state { active = false }) below at);
+            tidy =
+                rw (is, at)
+                (subst (Tidy (made_inactive vm core id) core) (sym (with_holder-none list_inactive id lists at))
+                (tidy-unlisted vm core lists id (λ state. record state { active = false }) below at tidy));
+          }
       by_tests true (Some list) is at =
-          joined-holder vm core iface.lists id list_inactive (λ state. record state { active = false }) below (within_of id is) shaped tidy list at
-          (made_inactive-changes core id below (within_of id is))
+          record {
+            after =
+                rw (is, at)
+                (joined-holder vm core lists id list_inactive (λ state. record state { active = false }) below (within_of id is) shaped tidy list at
+                (made_inactive-changes core id below (within_of id is)));
+            tidy = rw (is, at) (tidy-holder vm core lists id list_inactive made_inactive-keeps tidy);
+          }
+
+  pub refills : Refills vm core lists
+  refills = by_test (is_due vm core lists) refl
+    where
+      all : Interrupts
+      all = joined vm core lists
+
+      shaped_all : IsShaped (joined vm core lists)
+      shaped_all = shaped-joined vm core lists shaped
+
+      not_less : (a b : ℕ) → nat_lt a b ≡ false → b ≤ a
+      not_less a b is = grind (arith, nat_tests)
+
+      by_test : (test : Bool) → is_due vm core lists ≡ test → Refills vm core lists
+      by_test false is =
+          record { same = rw is refl; tidy = rw is tidy; best = rw is (not_less (best vm core) (best_listed lists) is) }
+      by_test true is =
+          record {
+            same = rw is (joined-all core below 4 (joined vm core lists) shaped_all);
+            tidy = rw is (tidy-all core below 4 (joined vm core lists) shaped_all);
+            best = rw is (listed-all core below 3 (joined vm core lists) shaped_all);
+          }

@@ -3,4 +3,10 @@ pub mod RankLemmas
 pub mod JoinedLemmas
 pub mod HolderLemmas
 pub mod FillLemmas
+pub mod TidyLemmas
 pub mod LawLemmas
+pub mod OthersLemmas
+pub mod MovedLemmas
+pub mod CoresLemmas
+pub mod PendedLemmas
+pub mod FrameLemmas

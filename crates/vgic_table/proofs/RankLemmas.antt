@@ -3,8 +3,8 @@ use Rattle.std.proofs.Common.{◌≡◌, ℕ, zero, suc, ◌+◌, ◌*◌, ◌/�
 use Rattle.vgic_iface.specs.Rank.{id_end, id_of, least, no_rank, priority_of, rank}
 use Rattle.vgic_iface.proofs.LeastLemmas.{least-found, least_le_none}
 use Rattle.std.proofs.lemmas.Bool.Decides.{nat_tests}
-use Rattle.bao_types.specs.ListReg.{ListRegData}
-use Rattle.vgic_table.specs.Registers.{free_register, register_for}
+use Rattle.bao_types.specs.ListReg.{ListRegData, free_register}
+use Rattle.vgic_table.specs.Registers.{register_for}
 use Rattle.vgic_table.specs.Interrupts.{Interrupts, best, may_take, rank_at, state_of}
 use Rattle.vgic_table.proofs.StateLemmas.{false_true}
 
@@ -33,6 +33,15 @@ best-found vm core some = by_kind (least-found (rank_at vm core) id_end)
         IsBest vm core (id_of (best vm core)) (best vm core)
     by_kind (inl none) = absurd (omega (arith, none, some))
     by_kind (inr (id, within, is)) = by_test id (may_take vm core id) within refl is
+
+-- a core may take none while the distributor is off
+none-off : (vm : Interrupts) (core count : ℕ) → vm.on ≡ false → least (rank_at vm core) count ≡ no_rank
+unfolding least
+none-off vm core zero off = refl
+none-off vm core (suc count) off = rw (none-off vm core count off, off) refl
+
+pub best-off : (vm : Interrupts) (core : ℕ) → vm.on ≡ false → best vm core ≡ no_rank
+best-off vm core off = none-off vm core id_end off
 
 -- all five tests of an id that may be taken
 pub record Passes (o w e p a : Bool) : Type 0 where

@@ -17,15 +17,15 @@ true_same a b is = grind (arith, nat_tests)
 pub false_other : (a b : ℕ) → (a == b) ≡ false → a ≢ b
 false_other a b is same = grind (arith, nat_tests)
 
-own_or_shared : (id : ℕ) → (id < 32) ⊎ (32 ≤ id)
+pub own_or_shared : (id : ℕ) → (id < 32) ⊎ (32 ≤ id)
 own_or_shared id = grind arith
 
-place-own : (core id : ℕ) → id < 32 → place core id ≡ 32 * core + id
+pub place-own : (core id : ℕ) → id < 32 → place core id ≡ 32 * core + id
 place-own core id own =
     let test : nat_lt id 32 ≡ true = grind (arith, nat_tests) in
     rw test refl
 
-place-shared : (core id : ℕ) → 32 ≤ id → place core id ≡ 224 + id
+pub place-shared : (core id : ℕ) → 32 ≤ id → place core id ≡ 224 + id
 place-shared core id shared =
     let test : nat_lt id 32 ≡ false = grind (arith, nat_tests) in
     rw test refl

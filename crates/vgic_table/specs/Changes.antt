@@ -1,9 +1,9 @@
 -- Changes of a VM's interrupts.
-use Rattle.std.specs.Prelude.{ℕ, ◌-◌, ◌%◌, nat_lt, true, false, if◌then◌else◌, Option, slice_set}
+use Rattle.std.specs.Prelude.{ℕ, ◌-◌, ◌%◌, nat_lt, Bool, true, false, if◌then◌else◌, Option, map, slice_set}
+use Rattle.std.specs.List.{enumerate_from}
 use Rattle.bao_types.specs.IfaceRegs.{IfaceData}
-use Rattle.vgic_iface.specs.Active.{with_priority}
 use Rattle.vgic_iface.specs.Interface.{is_signalled, signalled}
-use Rattle.vgic_iface.specs.Rank.{id_of, id_end, priority_of}
+use Rattle.vgic_iface.specs.Rank.{id_of, id_end}
 use Rattle.vgic_table.specs.declared.id_state.IdState.{IdState}
 use Rattle.vgic_table.specs.Interrupts.{Interrupts, best, place, state_of}
 
@@ -24,6 +24,14 @@ made_inactive vm core id = with_state vm core id (record (state_of vm core id) {
 abbrev pub taken : Interrupts → ℕ → ℕ → Interrupts
 taken vm core id = with_state vm core id (record (state_of vm core id) { pending = false; active = true })
 
+-- an id where it is made pending or left
+abbrev pub pended_if : Bool → IdState → IdState
+pended_if chosen state = if chosen then record state { pending = true } else state
+
+-- each id at one of these places is pending
+abbrev pub pended_at : (ℕ → Bool) → Interrupts → Interrupts
+pended_at chosen vm = record vm { ids = map (λ each. pended_if (chosen each.0) each.1) (enumerate_from 0 vm.ids) }
+
 -- the number that an acknowledgement by the core answers
 abbrev pub signal : Interrupts → ℕ → IfaceData → Option ℕ
 signal vm core iface = signalled iface (best vm core)
@@ -32,11 +40,6 @@ signal vm core iface = signalled iface (best vm core)
 -- stays
 abbrev pub after_acknowledge : Interrupts → ℕ → IfaceData → Interrupts
 after_acknowledge vm core iface = if is_signalled iface (best vm core) then taken vm core (id_of (best vm core)) else vm
-
--- the active priorities after an acknowledgement
-abbrev pub active_after_acknowledge : Interrupts → ℕ → IfaceData → ℕ
-active_after_acknowledge vm core iface =
-    if is_signalled iface (best vm core) then with_priority iface.active (priority_of (best vm core)) else iface.active
 
 -- after the end of an id: it is inactive
 abbrev pub after_end : Interrupts → ℕ → ℕ → Interrupts

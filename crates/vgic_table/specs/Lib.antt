@@ -3,3 +3,5 @@ pub mod Changes
 pub mod Registers
 pub mod Shape
 pub mod Laws
+pub mod Cores
+pub mod CoresLaws

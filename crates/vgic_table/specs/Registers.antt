@@ -1,7 +1,7 @@
 -- A VM's interrupts, of which some stand in a core's list registers.
-use Rattle.std.specs.Prelude.{◌≡◌, ◌<◌, ℕ, zero, suc, nat_lt, true, false, ◌&&◌, if◌then◌else◌, List, [], ◌∷◌, None, find}
-use Rattle.bao_types.specs.ListReg.{ListRegData, is_free}
-use Rattle.vgic_iface.specs.Interface.{holds}
+use Rattle.std.specs.Prelude.{◌≡◌, ◌<◌, ℕ, zero, suc, nat_lt, Bool, true, false, ◌&&◌, if◌then◌else◌, List, [], ◌∷◌, Option, Some, None, find}
+use Rattle.bao_types.specs.ListReg.{ListRegData, free_register, is_free}
+use Rattle.vgic_iface.specs.Interface.{best_listed, holds}
 use Rattle.vgic_iface.specs.Rank.{no_rank, id_end, id_of, priority_of}
 use Rattle.vgic_table.specs.Interrupts.{Interrupts, best, belongs, state_of}
 use Rattle.vgic_table.specs.Changes.{with_state}
@@ -34,9 +34,6 @@ Tidy vm core [] = Unit {0}
 Tidy vm core (list ∷ lists) =
     (is_free list ≡ false → Fits vm core list × (find (holds list.id) lists ≡ None)) × Tidy vm core lists
 
-abbrev pub free_register : ListRegData
-free_register = record { id = 0; priority = 0; pending = false; active = false }
-
 -- a register for the best id of the core; free where there is none
 abbrev pub register_for : ℕ → ListRegData
 register_for best =
@@ -58,3 +55,19 @@ registers (suc count) vm core = register_for (best vm core) ∷ registers count 
 abbrev pub left_by_registers : ℕ → Interrupts → ℕ → Interrupts
 left_by_registers zero vm core = vm
 left_by_registers (suc count) vm core = left_by_registers count (without_best vm core (best vm core)) core
+
+-- an id that is left in the table comes before the best one in the registers, so that these are filled again
+abbrev pub is_due : Interrupts → ℕ → List ListRegData → Bool
+is_due vm core lists = nat_lt (best vm core) (best_listed lists)
+
+-- what the registers are filled with again, where that is due
+abbrev pub refilled : Interrupts → ℕ → List ListRegData → Option (List ListRegData)
+refilled vm core lists = if is_due vm core lists then Some (registers 4 (joined vm core lists) core) else None
+
+-- the registers after that
+abbrev pub refilled_lists : Interrupts → ℕ → List ListRegData → List ListRegData
+refilled_lists vm core lists = if is_due vm core lists then registers 4 (joined vm core lists) core else lists
+
+-- and the table
+abbrev pub refilled_table : Interrupts → ℕ → List ListRegData → Interrupts
+refilled_table vm core lists = if is_due vm core lists then left_by_registers 4 (joined vm core lists) core else vm

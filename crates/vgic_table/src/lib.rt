@@ -6,7 +6,7 @@
 #![tactic(auto)]
 
 pub use id_state::IdState;
-pub use law::laws_of_registers;
+pub use law::{laws_of_cores, laws_of_pending, laws_of_registers};
 pub use table::IrqTable;
 
 mod id_state;

@@ -4,6 +4,7 @@ ghost use Rattle.vgic_table.specs.Interrupts.{place};
 use crate::IdState;
 use bao_types::ListReg;
 use std::marker::Model;
+use vgic_iface::best_listed;
 
 /// The ids of a core and its VM lie below this.
 const ID_END: u16 = 96;
@@ -49,14 +50,14 @@ pub struct IrqTable {
 }
 
 impl Model for IrqTable {
-    ghost use Rattle.std.specs.Prelude.{◌≤◌};
+    ghost use Rattle.std.specs.Prelude.{◌≡◌, ◌≤◌, length};
     ghost use Rattle.vgic_table.specs.Interrupts.{Interrupts};
 
     ghost Value = { Interrupts };
 
     ghost view = { λ t. record { on = t.on; cores = t.cores; ids = t.ids } };
 
-    ghost invariant = { λ t. t.cores ≤ 8 };
+    ghost invariant = { λ t. (t.cores ≤ 8) × (length t.ids ≡ 320) };
 }
 
 /// Where the table keeps an id of a core.
@@ -84,7 +85,8 @@ impl IrqTable {
     ghost use Rattle.std.specs.Prelude.{◌≡◌, ◌<◌, ◌≤◌, ◌%◌};
     ghost use Rattle.vgic_table.specs.Interrupts.{belongs, best, quiet_interrupts, rank_at, state_of};
     ghost use Rattle.vgic_table.specs.Changes.{made_inactive, made_pending, masked, with_state};
-    ghost use Rattle.vgic_table.specs.Registers.{joined, left_by_registers, put_back, register_for, registers, without_best};
+    ghost use Rattle.vgic_table.specs.Shape.{IsShaped};
+    ghost use Rattle.vgic_table.specs.Registers.{joined, left_by_registers, put_back, refilled, refilled_table, register_for, registers, without_best};
 
     /// The table of a VM with so many virtual cores, as it is at boot: the distributor is off, and each id is off,
     /// inactive and not pending, with priority 0.
@@ -109,6 +111,7 @@ impl IrqTable {
     pub fn cores(&self) -> u8
         ensures value { result ≡ self.now.cores }
         ensures bound { result ≤ 8 }
+        ensures shaped { IsShaped self.now }
     {
         self.cores
     }
@@ -233,6 +236,20 @@ impl IrqTable {
         [best, second, third, fourth]
     }
 
+    /// Collects a core's list registers and fills them again, where an id of the table comes before the best one in them.
+    /// None where it doesn't; all then stays. What table and registers are together stays the same.
+    pub fn refill(&mut self, core: u8, lists: &[ListReg; 4]) -> Option<[ListReg; 4]>
+        requires { core < self.old.cores }
+        ensures lists { result ≡ refilled self.old core lists.now }
+        ensures left { self.new ≡ refilled_table self.old core lists.now }
+    {
+        if self.best(core) >= best_listed(lists) {
+            return None;
+        }
+        self.collect(core, lists);
+        Some(self.fill(core))
+    }
+
     /// Moves the best id of a core into a list register; free where there is none.
     fn take_best(&mut self, core: u8) -> ListReg
         requires { core < self.old.cores }
@@ -241,12 +258,7 @@ impl IrqTable {
     {
         let best = self.best(core);
         if best >= NO_RANK {
-            return ListReg {
-                id: 0,
-                priority: 0,
-                pending: false,
-                active: false,
-            };
+            return ListReg::free();
         }
         let id = best % 128;
         let priority = self.priority(core, id);
@@ -273,12 +285,16 @@ impl IrqTable {
         kept.priority
     }
 
-    /// The best rank of a core.
-    fn best(&self, core: u8) -> u16
+    /// The best rank of a core by the table, list registers aside: a priority times 128, plus an id; 32768 where there is
+    /// nothing to take.
+    pub fn best(&self, core: u8) -> u16
         requires { core < self.now.cores }
         ensures value { result ≡ best self.now core }
         ensures bound { result ≤ 32768 }
     {
+        if !self.on {
+            return NO_RANK;
+        }
         let mut best = NO_RANK;
         for id in 0..ID_END {
             best = best.min(self.rank_at(core, id));

@@ -1,7 +1,7 @@
 use crate::{IdState, IrqTable};
 use bao_types::{IfaceRegs, ListReg};
 use std::process::Abort;
-use vgic_iface::{acknowledge, end, running};
+use vgic_iface::{NO_INTERRUPT, acknowledge, end, running, signal};
 
 const ENABLED: u8 = 1;
 
@@ -21,19 +21,12 @@ fn id_state(priority: u8, parts: u8) -> IdState {
     }
 }
 
-const FREE: ListReg = ListReg {
-    id: 0,
-    priority: 0,
-    pending: false,
-    active: false,
-};
-
-fn interface(lists: [ListReg; 4]) -> IfaceRegs {
+/// An interface with all masks open.
+fn interface() -> IfaceRegs {
     IfaceRegs {
         pmr: 0xf8,
         group: true,
         active: 0,
-        lists,
     }
 }
 
@@ -59,12 +52,13 @@ fn acknowledged(table: &mut IrqTable, core: u8, ends: bool) -> u16 {
     if core >= table.cores() {
         return 0;
     }
-    let mut iface = interface(table.fill(core));
-    let id = acknowledge(&mut iface);
+    let mut iface = interface();
+    let mut lists = table.fill(core);
+    let id = acknowledge(&mut iface, &mut lists).unwrap_or(NO_INTERRUPT);
     if ends {
-        let _ = end(&mut iface, id);
+        let _ = end(&mut iface, &mut lists, id);
     }
-    table.collect(core, &iface.lists);
+    table.collect(core, &lists);
     id
 }
 
@@ -186,8 +180,8 @@ fn put(table: &mut IrqTable, id: u16, priority: u8, parts: u8) {
 }
 
 /// Ends an id of core 0, in the table where it stands in no register.
-fn end_at(table: &mut IrqTable, iface: &mut IfaceRegs, id: u16) {
-    if !end(iface, id) && id < 96 && table.cores() > 0 {
+fn end_at(table: &mut IrqTable, iface: &mut IfaceRegs, lists: &mut [ListReg; 4], id: u16) {
+    if !end(iface, lists, id) && id < 96 && table.cores() > 0 {
         table.drop_active(0, id);
     }
 }
@@ -207,9 +201,9 @@ fn active(id: u16, priority: u8) -> ListReg {
     }
 }
 
-fn collect(table: &mut IrqTable, iface: &IfaceRegs) {
+fn collect(table: &mut IrqTable, lists: &[ListReg; 4]) {
     if table.cores() > 0 {
-        table.collect(0, &iface.lists);
+        table.collect(0, lists);
     }
 }
 
@@ -217,13 +211,14 @@ fn collect(table: &mut IrqTable, iface: &IfaceRegs) {
 /// which the ids with a bit in `listed` stand in registers, four at most, and the others in the table.
 fn is_unwound(listed: usize) -> bool {
     let mut table = IrqTable::new(1);
-    let mut iface = interface([FREE; 4]);
+    let mut iface = interface();
+    let mut lists = [ListReg::free(); 4];
     let mut next = 0;
     for (place, (id, priority)) in NESTED.as_slice().iter().enumerate() {
         if place < 5 {
             iface.active |= 1 << (*priority / 8);
             if listed >> place & 1 == 1 && next < 4 {
-                iface.lists[next] = active(*id, *priority);
+                lists[next] = active(*id, *priority);
                 next += 1;
                 put(&mut table, *id, *priority, ENABLED);
             } else {
@@ -232,9 +227,9 @@ fn is_unwound(listed: usize) -> bool {
         }
     }
     for id in [54u16, 53, 52, 51, 50] {
-        end_at(&mut table, &mut iface, id);
+        end_at(&mut table, &mut iface, &mut lists, id);
     }
-    collect(&mut table, &iface);
+    collect(&mut table, &lists);
     let mut rests = running(&iface) == 0xff;
     for (id, priority) in NESTED.as_slice() {
         rests = rests && is_at_rest(&table, *id, *priority);
@@ -246,5 +241,41 @@ fn is_unwound(listed: usize) -> bool {
 fn nested_ids_end_wherever_they_stand(rt: HostRuntime) {
     for listed in 0..32 {
         assert!(rt; is_unwound(listed), "{listed}");
+    }
+}
+
+/// What a core's registers signal after they were filled again where that was due, and whether it was.
+fn refilled(table: &mut IrqTable, core: u8, lists: &mut [ListReg; 4]) -> (bool, Option<u16>) {
+    if core >= table.cores() {
+        return (false, None);
+    }
+    let mut due = false;
+    if let Some(filled) = table.refill(core, lists) {
+        *lists = filled;
+        due = true;
+    }
+    (due, signal(&interface(), lists))
+}
+
+#[rattlefmt::skip]
+static REFILLS: [(&str, u16, u8, bool, Option<u16>); 6] = [
+    // shows                                id  priority  due    signalled
+    ("the first id goes into a register",   40, 0x20,     true,  Some(40)),
+    ("a less urgent one waits",             41, 0x28,     false, Some(40)),
+    ("so does one of a greater id",         42, 0x20,     false, Some(40)),
+    ("one of a lesser id doesn't",          39, 0x20,     true,  Some(39)),
+    ("nor a more urgent one",               43, 0x18,     true,  Some(43)),
+    ("but one that no core may take",       44, 0xff,     false, Some(43)),
+];
+
+#[test]
+fn refilled_where_that_is_due(rt: HostRuntime) {
+    let mut table = IrqTable::new(1);
+    table.set_on(true);
+    let mut lists = [ListReg::free(); 4];
+    for (shows, id, priority, due, signalled) in REFILLS.as_slice() {
+        put(&mut table, *id, *priority, READY);
+        let met = refilled(&mut table, 0, &mut lists) == (*due, *signalled);
+        assert!(rt; met, "{shows}");
     }
 }

@@ -26,7 +26,7 @@ pub fn boot<B: Board>(board: &mut B, checked: &Checked, plans: &[Plan], images: 
     requires images { FitRooms (checked_data checked.now) (map (λ image. image.items) images.now) }
     ensures tidy { Tidy (checked_data checked.now) result (B.state board.new) }
     ensures state { let model = boot (checked_data checked.now) (map (λ image. image.items) images.now) in
-        stands_for result (B.state board.new) ≡ record model { ports = (B.state board.old).ports } }
+        stands_for (checked_data checked.now) result (B.state board.new) ≡ record model { ports = (B.state board.old).ports } }
     ensures entered { (B.state board.new).entered ≡ 0 }
     ensures board { B.state board.new
         ≡ booted (checked_data checked.now) (packings_of plans.now) (map (λ image. image.items) images.now) (B.state board.old) }

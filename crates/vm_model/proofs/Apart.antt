@@ -209,6 +209,25 @@ other_of_b zero other core but got has =
 other_of_b (suc zero) other core but got has = absurd (but refl)
 other_of_b (suc (suc w)) other core but got has = cc
 
+-- nor is a port given to both
+devs_of_a : (w : ℕ) (other : VmData) (port : ℕ) → w ≢ 0 → slice_get (vm_a ∷ vm_b ∷ []) w ≡ Some other → IsTrue (has_port port other)
+    → IsFalse (has_port port vm_a)
+devs_of_a zero other port but got has = absurd (but refl)
+devs_of_a (suc zero) other port but got has =
+    let vm : vm_b ≡ other = cc in
+    let own : IsTrue (has_port port vm_b) = subst (λ x. IsTrue (has_port port x)) (sym vm) has in
+    lists_none (0 == port) (never_both port (0 == port) (1 == port) refl refl (lists_one (1 == port) own))
+devs_of_a (suc (suc w)) other port but got has = cc
+
+devs_of_b : (w : ℕ) (other : VmData) (port : ℕ) → w ≢ 1 → slice_get (vm_a ∷ vm_b ∷ []) w ≡ Some other → IsTrue (has_port port other)
+    → IsFalse (has_port port vm_b)
+devs_of_b zero other port but got has =
+    let vm : vm_a ≡ other = cc in
+    let own : IsTrue (has_port port vm_a) = subst (λ x. IsTrue (has_port port x)) (sym vm) has in
+    lists_none (1 == port) (never_both_ways port (0 == port) (1 == port) refl refl (lists_one (0 == port) own))
+devs_of_b (suc zero) other port but got has = absurd (but refl)
+devs_of_b (suc (suc w)) other port but got has = cc
+
 -- whose ports a core reaches
 module _ (core port : ℕ) (reached : ReachesPort (by_map pair core) (platform_places pair) port) where
   of_a : (0 == core) ≡ true → port ≡ 0
@@ -258,6 +277,7 @@ module _ (a b : List ℕ) (fit : AreFit a b) where
     loads = λ w other image at but got given in_map. of_place w other image at but got given in_map;
     own_ports = λ core port own reached. own_of_a core port reached (0 == core) (1 == core) refl refl own;
     other_ports = λ core port stranger reached. foreign_to_a core port reached (0 == core) (1 == core) refl refl stranger;
+    other_devs = devs_of_a;
   }
     where
       of_place : (w : ℕ) (other : VmData) (image : List ℕ) (at : ℕ) → w ≢ 0 → slice_get (vm_a ∷ vm_b ∷ []) w ≡ Some other
@@ -283,6 +303,7 @@ module _ (a b : List ℕ) (fit : AreFit a b) where
     loads = λ w other image at but got given in_map. of_place w other image at but got given in_map;
     own_ports = λ core port own reached. own_of_b core port reached (0 == core) (1 == core) refl refl own;
     other_ports = λ core port stranger reached. foreign_to_b core port reached (0 == core) (1 == core) refl refl stranger;
+    other_devs = devs_of_b;
   }
     where
       of_place : (w : ℕ) (other : VmData) (image : List ℕ) (at : ℕ) → w ≢ 1 → slice_get (vm_a ∷ vm_b ∷ []) w ≡ Some other

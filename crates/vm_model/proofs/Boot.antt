@@ -81,4 +81,6 @@ module _ (cfg : ConfigData) (images : List (List ℕ)) (v : ℕ) (vm : VmData) (
     core_count = length-map _ _ ∙ sym (length-map _ _);
     table = ap boot_table apart.place;
     ports = λ port has. refl;
+    timer_lines = λ core has. refl;
+    port_lines = λ port has. refl;
   }

@@ -12,7 +12,7 @@ use Rattle.a64_state.specs.Registers.{reset_core}
 use Rattle.exceptions.specs.declared.class.Class.TheVariants.{DataAbortLower}
 use Rattle.bao_config.specs.Data.{ConfigData, VmData, IpcData}
 use Rattle.bao_wellformed.specs.Map.{has_core, owner}
-use Rattle.board.specs.Attempt.{Outcome, Ran, Leave, Unbuilt}
+use Rattle.board.specs.Attempt.{Outcome, Ran, Acknowledged, Ended, Leave}
 use Rattle.board.specs.Machine.{begun, core_at}
 use Rattle.shared_windows.specs.Windows.{irq_in, irq_of, is_member, is_on, lists}
 use Rattle.hypercalls.specs.Calls.{answer_of, call_in, call_of, doorbell, outcome_of, service_of, not_supported}
@@ -24,11 +24,10 @@ use Rattle.hypercalls.specs.declared.power.Power.TheVariants.{On, Off, Parked}
 use Rattle.hypercalls.specs.declared.service.Service.{Service}
 use Rattle.hypercalls.specs.declared.service.Service.TheVariants as service
 use Rattle.hypercalls.proofs.Lawful.{outcomes_lawful}
-use Rattle.vm_model.specs.Cores.{affinity_of}
+use Rattle.vm_model.specs.Cores.{affinity_of, is_place, place_of}
 use Rattle.vm_model.specs.Guests.{Guests, Tables}
 use Rattle.vm_model.specs.Park.{is_abort, is_of_class, is_described, width_of, is_in_frame, parks}
-use Rattle.vm_model.specs.Duty.{Park, Call, NotBuilt, all_off, answered, arguments, call_duty, call_outcome, carried, cores_of, done, duty_of, immediate, is_call, is_smc, pended, place_of, powers_of, ring_of, rung, started, turned_on, with_answer}
-use Rattle.vm_model.specs.Lone.{is_place}
+use Rattle.vm_model.specs.Duty.{Park, Call, NotBuilt, all_off, answered, arguments, call_duty, call_outcome, carried, cores_of, done, duty_of, immediate, is_call, is_smc, pended, powers_of, ring_of, rung, started, turned_on, with_answer}
 use Rattle.vm_model.proofs.Lists.{set_alike, set_get_alike, set_get_other}
 
 -- the configuration with one VM
@@ -202,6 +201,8 @@ module _ (cfg : ConfigData) (v : ℕ) (vm : VmData) (place : slice_get cfg.vms v
   pub done_alike : (core : ℕ) → IsTrue (has_core core vm) → (outcome : Outcome) (g h : Guests) → SameGuests v vm g h
       → SameGuests v vm (done cfg core (duty_of cfg core outcome g) g) (done (single cfg vm) core (duty_of (single cfg vm) core outcome h) h)
   done_alike core own Ran g h same = same
+  done_alike core own Acknowledged g h same = same
+  done_alike core own (Ended id) g h same = same
   done_alike core own (Leave esr far) g h same = by_call (is_call esr)
     where
       called : SameGuests v vm (done cfg core (Call v (is_smc esr) (call_outcome cfg v core esr g)) g)
@@ -235,7 +236,6 @@ module _ (cfg : ConfigData) (v : ℕ) (vm : VmData) (place : slice_get cfg.vms v
           by_parks false false e = same
           by_parks true false e = cc
           by_parks false true e = cc
-  done_alike core own Unbuilt g h same = same
 
 -- the interrupts of the VM alone after another rings an event
 module _ (cfg : ConfigData) (v : ℕ) (vm : VmData) where
@@ -356,6 +356,8 @@ module _ (cfg : ConfigData) (v : ℕ) (vm : VmData) (place : slice_get cfg.vms v
       → (outcome : Outcome) (g h : Guests) → SameGuests v vm g h
       → SameGuests v vm (done cfg core (duty_of cfg core outcome g) g) (with_heard cfg v vm (ring_of (duty_of cfg core outcome g)) h)
   done_foreign there Ran g h same = same
+  done_foreign there Acknowledged g h same = same
+  done_foreign there (Ended id) g h same = same
   done_foreign there (Leave esr far) g h same = by_call (is_call esr)
     where
       by_place : (o : Option ℕ) → place_of cfg core ≡ o
@@ -376,4 +378,3 @@ module _ (cfg : ConfigData) (v : ℕ) (vm : VmData) (place : slice_get cfg.vms v
           else if parks cfg core esr far then Park esr far else NotBuilt)) h)
       by_call true = by_place (place_of cfg core) refl
       by_call false = by_parks (parks cfg core esr far)
-  done_foreign there Unbuilt g h same = same

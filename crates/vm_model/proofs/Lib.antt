@@ -2,6 +2,7 @@ pub mod Lists
 pub mod Stores
 pub mod Ports
 pub mod Duties
+pub mod Ready
 pub mod Own
 pub mod Strangers
 pub mod Boot

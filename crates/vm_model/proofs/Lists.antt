@@ -6,7 +6,7 @@ use Rattle.std.proofs.lemmas.Bool.{eq-eqb}
 use Rattle.std.proofs.lemmas.Bool.Decides.{nat_tests}
 use Rattle.std.proofs.lemmas.List.{get_or-set_same, get_or-set_other, set_past}
 use Rattle.bao_config.specs.Data.{VmData}
-use Rattle.vm_model.specs.Lone.{is_place}
+use Rattle.vm_model.specs.Cores.{is_place}
 
 -- the first one that passes, by its place
 pub record IsFound (p : VmData → Bool) (xs : List VmData) (i v : ℕ) : Type 0 where

@@ -2,9 +2,9 @@
 use Rattle.std.proofs.Common.{◌≡◌, ℕ, suc, Bool, true, false, List, [], ◌∷◌, ◌++◌, All, refl, sym, ap, subst, ◌∙◌, arith}
 use Rattle.std.specs.Prelude.{if◌then◌else◌, Some, slice_get, option_to_list}
 use Rattle.bao_config.specs.Data.{ConfigData, VmData}
-use Rattle.vm_model.specs.Flat.{Flat, FlatEvent, Step, Input, Wrote, Rang, flat_step, flat_run}
+use Rattle.vm_model.specs.Flat.{Flat, FlatEvent, Step, Input, Wrote, Rang, has_dev, flat_step, flat_run}
 use Rattle.vm_model.specs.Boot.{boot}
-use Rattle.vm_model.specs.Lone.{only, is_core_of, has_dev, is_dev_of, emitted, seen, view}
+use Rattle.vm_model.specs.Lone.{only, is_core_of, is_dev_of, emitted, seen, view}
 use Rattle.vm_model.specs.Agree.{Agree}
 use Rattle.vm_model.specs.Apart.{IsApart}
 use Rattle.vm_model.specs.Alone.{InputsAgree, OwnStepsAgree, OtherStepsAgree, IsOfSchedule, RunsAsIfAlone}

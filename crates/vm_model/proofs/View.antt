@@ -4,9 +4,8 @@ use Rattle.std.specs.Prelude.{IsTrue, if◌then◌else◌, filter, Option, None,
 use Rattle.std.proofs.lemmas.List.Elements.{All-nil, All-cons, All-append, filter_passes}
 use Rattle.bao_config.specs.Data.{ConfigData}
 use Rattle.shared_windows.specs.Windows.{lists}
-use Rattle.vm_model.specs.Duty.{ring_of}
-use Rattle.vm_model.specs.Flat.{Flat, FlatEvent, Step, Input, Wrote, Rang, runs, flat_duty, flat_step}
-use Rattle.vm_model.specs.Lone.{is_core_of, is_dev_of, is_in_window, as_event, as_ring, stored, emitted, seen, view}
+use Rattle.vm_model.specs.Flat.{Flat, FlatEvent, Step, Input, Wrote, Rang, runs, flat_step}
+use Rattle.vm_model.specs.Lone.{is_core_of, is_dev_of, is_in_window, as_event, as_ring, stored, rings, emitted, seen, view}
 use Rattle.vm_model.specs.Alone.{IsItsOwn, SeesItsOwn}
 
 module _ (cfg : ConfigData) (v : ℕ) where
@@ -37,7 +36,7 @@ module _ (cfg : ConfigData) (v : ℕ) where
     of_core : (core now : ℕ) (own : Bool) → is_core_of cfg v core ≡ own
         → All (IsItsOwn cfg v) (if own then Step core now ∷ [] else emitted cfg f v (Step core now))
     of_core core now true own = All-cons (IsItsOwn cfg v) (Step core now) [] own (All-nil (IsItsOwn cfg v))
-    of_core core now false own = of_others (runs cfg f core) (stored cfg f core now) (ring_of (flat_duty cfg f core now))
+    of_core core now false own = of_others (runs cfg f core) (stored cfg f core now) (rings cfg f core now)
 
     of_port : (port byte : ℕ) (own : Bool) → is_dev_of cfg v port ≡ own
         → All (IsItsOwn cfg v) (if own then Input port byte ∷ [] else emitted cfg f v (Input port byte))

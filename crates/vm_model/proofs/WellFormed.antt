@@ -19,7 +19,8 @@ use Rattle.bao_wellformed.proofs.Places.{maps_granular, places_own}
 use Rattle.board.specs.Stage.{is_allowed}
 use Rattle.board.specs.Reached.{ReachesPort}
 use Rattle.vm_model.specs.Flat.{platform_places}
-use Rattle.vm_model.specs.Lone.{is_window, is_place, is_core_of, is_in_window}
+use Rattle.vm_model.specs.Cores.{is_place}
+use Rattle.vm_model.specs.Lone.{is_window, is_core_of, is_in_window}
 use Rattle.vm_model.specs.Agree.{IsInMap}
 use Rattle.vm_model.specs.Apart.{WellFormedApart, WellFormedGranular}
 use Rattle.vm_model.proofs.Lists.{found_got}
@@ -156,6 +157,14 @@ lacked cfg v vm well_formed place w other core differ there has true own =
     absurd (differ (cores_apart cfg w v other vm core well_formed there place has own))
 lacked cfg v vm well_formed place w other core differ there has false own = refl
 
+-- nor is a port that another VM is given
+ungiven : (cfg : ConfigData) (v : ℕ) (vm : VmData) → IsWellFormed cfg → slice_get cfg.vms v ≡ Some vm
+    → (w : ℕ) (other : VmData) (port : ℕ) → w ≢ v → slice_get cfg.vms w ≡ Some other → IsTrue (has_port port other)
+    → (b : Bool) → has_port port vm ≡ b → IsFalse b
+ungiven cfg v vm well_formed place w other port differ there has true own =
+    absurd (differ (ports_apart cfg w v other vm port well_formed there place has own))
+ungiven cfg v vm well_formed place w other port differ there has false own = refl
+
 -- each VM of a well-formed configuration is apart from the others
 pub well_formed_apart : WellFormedApart
 well_formed_apart cfg images v vm well_formed fits rooms place = record {
@@ -169,6 +178,7 @@ well_formed_apart cfg images v vm well_formed fits rooms place = record {
   own_ports = reaches_own cfg v vm well_formed place;
   other_ports = λ core port stranger reached.
       reaches_no_other cfg v vm well_formed place core port stranger reached (has_port port vm) refl;
+  other_devs = λ w other port differ there has. ungiven cfg v vm well_formed place w other port differ there has (has_port port vm) refl;
 }
 
 -- 16 bytes from a multiple of 16 on lie between two multiples of 64

@@ -10,8 +10,9 @@ pub use Rattle.bao_wellformed.specs.ByteRules.{is_present}
 abbrev pub IsInMap : ConfigData → VmData → ℕ → Type 0
 IsInMap cfg vm at = IsTrue (is_present (kind_at cfg vm at))
 
--- Equal are all bytes of the VM's map, the registers and the power of each of its cores, its interrupts, and what each of its
--- ports keeps. In the one it stands at place v among the VMs, in the other it is the first.
+-- Equal are all bytes of the VM's map, the registers and the power of each of its cores, its interrupts, what each of its ports
+-- keeps, and which of the lines of its cores' timers and of its ports are raised. In the one it stands at place v among the VMs,
+-- in the other it is the first.
 pub record Agree (cfg : ConfigData) (v : ℕ) (vm : VmData) (one other : Flat) : Type 0 where
   pub bytes : (at : ℕ) → IsInMap cfg vm at → one.bytes at ≡ other.bytes at
   pub cores : (core : ℕ) → IsTrue (has_core core vm) → core_at one.cores core ≡ core_at other.cores core
@@ -19,3 +20,5 @@ pub record Agree (cfg : ConfigData) (v : ℕ) (vm : VmData) (one other : Flat) :
   pub core_count : length one.cores ≡ length other.cores
   pub table : one.tables v ≡ other.tables 0
   pub ports : (port : ℕ) → IsTrue (has_port port vm) → one.ports port ≡ other.ports port
+  pub timer_lines : (core : ℕ) → IsTrue (has_core core vm) → one.timer_lines core ≡ other.timer_lines core
+  pub port_lines : (port : ℕ) → IsTrue (has_port port vm) → one.port_lines port ≡ other.port_lines port

@@ -13,8 +13,8 @@ use Rattle.vm_model.specs.Lone.{is_core_of, is_in_window}
 use Rattle.vm_model.specs.Agree.{IsInMap}
 
 -- The VM at place v is apart from the others: its cores are its alone, and no other lists one of them; where a core of another
--- may store to a byte of its map, the byte is a window of it; no image of another lies over its map; and its cores reach no
--- ports but its own, which no core of another reaches.
+-- may store to a byte of its map, the byte is a window of it; no image of another lies over its map; its cores reach no ports but
+-- its own, which no core of another reaches; and no other is given one of its ports.
 pub record IsApart (cfg : ConfigData) (images : List (List ℕ)) (v : ℕ) (vm : VmData) : Type 0 where
   pub place : slice_get cfg.vms v ≡ Some vm
   pub cores : (core : ℕ) → IsTrue (has_core core vm) → IsTrue (is_core_of cfg v core)
@@ -28,6 +28,8 @@ pub record IsApart (cfg : ConfigData) (images : List (List ℕ)) (v : ℕ) (vm :
   pub own_ports : (core port : ℕ) → IsTrue (is_core_of cfg v core) → ReachesPort (by_map cfg core) (platform_places cfg) port
       → IsTrue (has_port port vm)
   pub other_ports : (core port : ℕ) → IsFalse (is_core_of cfg v core) → ReachesPort (by_map cfg core) (platform_places cfg) port
+      → IsFalse (has_port port vm)
+  pub other_devs : (w : ℕ) (other : VmData) (port : ℕ) → w ≢ v → slice_get cfg.vms w ≡ Some other → IsTrue (has_port port other)
       → IsFalse (has_port port vm)
 
 -- each 16 bytes from a multiple of 16 on are of one kind to the VM, as all ranges of a configuration are multiples of 64

@@ -1,5 +1,6 @@
--- The flat machine at boot: the images lie in memory, the first core of each VM is about to run, and the ports are new.
-use Rattle.std.specs.Prelude.{ℕ, zero, suc, List, [], ◌∷◌, map, Option, None, Some, slice_get}
+-- The flat machine at boot: the images lie in memory, the first core of each VM is about to run, the ports are new, and no line is
+-- raised.
+use Rattle.std.specs.Prelude.{ℕ, zero, suc, false, List, [], ◌∷◌, map, Option, None, Some, slice_get}
 use Rattle.std.specs.List.{enumerate_from}
 use Rattle.a64_state.specs.Core.{CoreData}
 use Rattle.a64_state.specs.Registers.{reset_core}
@@ -54,5 +55,6 @@ boot cfg images =
       powers = boot_powers cfg;
       tables = λ v. boot_table (slice_get cfg.vms v);
       ports = standard_ports;
-      count = 0;
+      timer_lines = λ core. false;
+      port_lines = λ port. false;
     }

@@ -1,7 +1,17 @@
--- The number that a physical core has in its VM.
-use Rattle.std.specs.Prelude.{ℕ, ◌==◌, Option, None, Some, unwrap_or}
+-- Where a physical core stands: in which VM, and with which number there.
+use Rattle.std.specs.Prelude.{ℕ, ◌==◌, Bool, false, Option, None, Some, unwrap_or}
 use Rattle.std.specs.List.{position_from}
-use Rattle.bao_config.specs.Data.{VmData}
+use Rattle.bao_config.specs.Data.{ConfigData, VmData}
+use Rattle.bao_wellformed.specs.Map.{has_core}
+
+-- the place of the VM that has the core, where one has it
+abbrev pub place_of : ConfigData → ℕ → Option ℕ
+place_of cfg core = position_from (has_core core) 0 cfg.vms
+
+-- the place is this one
+abbrev pub is_place : ℕ → Option ℕ → Bool
+is_place v None = false
+is_place v (Some w) = w == v
 
 -- the virtual number of a physical core in its VM
 abbrev pub virtual_core : VmData → ℕ → Option ℕ

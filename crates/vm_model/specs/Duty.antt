@@ -1,15 +1,15 @@
 -- What a step leaves to the hypervisor, and what that makes of the VMs. HVC and SMC are answered as calls of the VM: what
--- comes of one is a matter of `hypercalls`. An abort that stage 2 makes parks its core.
+-- comes of one is a matter of `hypercalls`. An abort that stage 2 makes parks its core. What an interrupt that is taken or ends
+-- changes is done with the step.
 use Rattle.std.specs.Prelude.{ℕ, ◌==◌, ◌||◌, Bool, true, false, if◌then◌else◌, List, [], ◌∷◌, map, Option, None, Some, slice_get, slice_index, slice_index_or, slice_set}
-use Rattle.std.specs.List.{position_from}
 use Rattle.bao_types.specs.Bits.{field}
 use Rattle.a64_state.specs.Core.{CoreData}
 use Rattle.a64_state.specs.Registers.{reset_core, with_x, x_of}
 use Rattle.a64_execute.specs.Branch.{advanced}
 use Rattle.exceptions.specs.declared.class.Class.TheVariants.{Hvc, Smc}
 use Rattle.bao_config.specs.Data.{ConfigData, VmData}
-use Rattle.bao_wellformed.specs.Map.{has_core, owner}
-use Rattle.board.specs.Attempt.{Outcome, Ran, Leave, Unbuilt}
+use Rattle.bao_wellformed.specs.Map.{owner}
+use Rattle.board.specs.Attempt.{Outcome, Ran, Acknowledged, Ended, Leave}
 use Rattle.board.specs.Machine.{begun, core_at}
 use Rattle.shared_windows.specs.Windows.{irq_of, is_member}
 use Rattle.hypercalls.specs.Calls.{answer_of, call_of, not_supported}
@@ -19,7 +19,7 @@ use Rattle.hypercalls.specs.declared.power.Power.{Power}
 use Rattle.hypercalls.specs.declared.power.Power.TheVariants.{On, Off, Parked}
 use Rattle.vgic_table.specs.Interrupts.{Interrupts}
 use Rattle.vgic_table.specs.Changes.{made_pending}
-use Rattle.vm_model.specs.Cores.{affinity_of}
+use Rattle.vm_model.specs.Cores.{affinity_of, place_of}
 use Rattle.vm_model.specs.Guests.{Guests, Tables}
 use Rattle.vm_model.specs.Park.{is_of_class, parks}
 
@@ -36,10 +36,6 @@ is_call esr = is_hvc esr || is_smc esr
 -- the immediate of the instruction
 abbrev pub immediate : ℕ → ℕ
 immediate esr = field esr 15 0
-
--- the place of the VM that has the core, where one has it
-abbrev pub place_of : ConfigData → ℕ → Option ℕ
-place_of cfg core = position_from (has_core core) 0 cfg.vms
 
 -- the physical cores of a VM, in the order of their virtual numbers
 abbrev pub cores_of : Option VmData → List ℕ
@@ -75,11 +71,12 @@ call_duty cfg (Some v) core esr guests = Call v (is_smc esr) (call_outcome cfg v
 
 abbrev pub duty_of : ConfigData → ℕ → Outcome → Guests → Duty
 duty_of cfg core Ran guests = Nothing
+duty_of cfg core Acknowledged guests = Nothing
+duty_of cfg core (Ended id) guests = Nothing
 duty_of cfg core (Leave esr far) guests =
     if is_call esr then call_duty cfg (place_of cfg core) core esr guests
     else if parks cfg core esr far then Park esr far
     else NotBuilt
-duty_of cfg core Unbuilt guests = NotBuilt
 
 abbrev pub is_not_built : Duty → Bool
 is_not_built Nothing = false

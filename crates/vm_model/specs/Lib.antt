@@ -2,6 +2,7 @@ pub mod Cores
 pub mod Guests
 pub mod Park
 pub mod Duty
+pub mod Interrupts
 pub mod Flat
 pub mod Boot
 pub mod Lone

@@ -3,10 +3,11 @@ use Rattle.std.specs.Prelude.{ℕ, ◌==◌, Bool, true, false, if◌then◌else
 use Rattle.bao_config.specs.Data.{ConfigData, VmData}
 use Rattle.bao_wellformed.specs.declared.map.Kind.{Kind}
 use Rattle.bao_wellformed.specs.declared.map.Kind.TheVariants.{Ram, Port, Window, Hole}
-use Rattle.bao_wellformed.specs.Map.{kind_at, has_port}
+use Rattle.bao_wellformed.specs.Map.{kind_at}
 use Rattle.shared_windows.specs.Windows.{lists}
-use Rattle.vm_model.specs.Duty.{place_of, ring_of}
-use Rattle.vm_model.specs.Flat.{Flat, FlatEvent, Step, Input, Wrote, Rang, runs, flat_attempt, flat_duty, flat_step, flat_run}
+use Rattle.vm_model.specs.Cores.{is_place, place_of}
+use Rattle.vm_model.specs.Duty.{ring_of}
+use Rattle.vm_model.specs.Flat.{Flat, FlatEvent, Step, Input, Wrote, Rang, has_dev, runs, flat_effect, flat_duty, flat_ready, flat_step, flat_run}
 use Rattle.vm_model.specs.Boot.{boot}
 
 -- the configuration with this VM as its only one; the platform, the hypervisor's range and the shared memories stay
@@ -34,33 +35,28 @@ abbrev pub as_ring : ConfigData → ℕ → Option (ℕ × ℕ) → List FlatEve
 as_ring cfg v None = []
 as_ring cfg v (Some (shmem, event)) = if lists cfg v shmem then Rang shmem event ∷ [] else []
 
--- the bytes that a step stores, each with its address, in order
+-- the bytes that a step stores, each with its address, in order, and the event of a shared memory that it rings
 abbrev pub stored : ConfigData → Flat → ℕ → ℕ → List (ℕ × ℕ)
-stored cfg f core now = (flat_attempt cfg f core now).stored
+stored cfg f core count = (flat_effect cfg (flat_ready cfg f core count) core count).stored
+
+abbrev pub rings : ConfigData → Flat → ℕ → ℕ → Option (ℕ × ℕ)
+rings cfg f core count = ring_of (flat_duty cfg (flat_ready cfg f core count) core count)
 
 -- what an event of another brings into the VM's run: the bytes that it stores in the VM's windows, then the event that it rings
 -- of a shared memory that the VM lists
 abbrev pub emitted : ConfigData → Flat → ℕ → FlatEvent → List FlatEvent
-emitted cfg f v (Step core now) =
+emitted cfg f v (Step core count) =
     if runs cfg f core
-    then as_event (filter (λ store. is_in_window cfg (slice_get cfg.vms v) store.0) (stored cfg f core now))
-    ++ as_ring cfg v (ring_of (flat_duty cfg f core now))
+    then as_event (filter (λ store. is_in_window cfg (slice_get cfg.vms v) store.0) (stored cfg f core count))
+    ++ as_ring cfg v (rings cfg f core count)
     else []
 emitted cfg f v (Input port byte) = []
 emitted cfg f v (Wrote stores) = []
 emitted cfg f v (Rang shmem event) = []
 
-abbrev pub is_place : ℕ → Option ℕ → Bool
-is_place v None = false
-is_place v (Some w) = w == v
-
 -- the core is one of the VM's
 abbrev pub is_core_of : ConfigData → ℕ → ℕ → Bool
 is_core_of cfg v core = is_place v (place_of cfg core)
-
-abbrev pub has_dev : ℕ → Option VmData → Bool
-has_dev port None = false
-has_dev port (Some vm) = has_port port vm
 
 -- the port is among the VM's devs
 abbrev pub is_dev_of : ConfigData → ℕ → ℕ → Bool

@@ -9,4 +9,4 @@ transfer-requires-clause-width c = asked_width c.args.core.now c.args.instr.now 
 pub returns : goal.returns
 returns c =
     c.advance.ensures ∙ ap (λ core. advanced core) c.transfer.ensures
-    ∙ access_finished c.args.core.now c.args.now c.args.instr.now c.args.got c.args.shape.now c.requires.need
+    ∙ access_finished c.args.core.now c.args.moment c.args.instr.now c.args.got c.args.shape.now c.requires.need

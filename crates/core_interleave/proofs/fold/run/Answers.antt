@@ -44,7 +44,7 @@ returns-then-not-built g c =
       state = reached.state;
       entered = reached.entered;
       alone =
-          ends_as_alone cfg (flat_of start) (flat_of next) (take (n + 1) (map flat_event events)) c.args.checked.now.well_formed
+          ends_as_alone cfg (flat_of cfg start) (flat_of cfg next) (take (n + 1) (map flat_event events)) c.args.checked.now.well_formed
           c.args.checked.now.config.fits (first_scheduled (n + 1) events) reached.state;
       shape = reached.shape;
       entries = reached.entries;
@@ -80,7 +80,7 @@ returns g c =
       state = reached.state;
       entered = reached.entered;
       alone =
-          ends_as_alone cfg (flat_of start) (flat_of now) (map flat_event events) c.args.checked.now.well_formed
+          ends_as_alone cfg (flat_of cfg start) (flat_of cfg now) (map flat_event events) c.args.checked.now.well_formed
           c.args.checked.now.config.fits (all_scheduled events) reached.state;
       shape = reached.shape;
       entries = reached.entries;

@@ -24,7 +24,7 @@ returns-in_err-write_consoles-clause-taken g c =
     let named = c.in_ok-put_vm.ensures.taken ∙ ap (λ n. grown (g.K.Sink.taken c.args.sink.now) (vm_line n)) name in
     let cored =
     c.in_ok-write_cores.ensures.taken
-    ∙ ap (λ cs. grown (g.K.Sink.taken c.put_vm.new.sink) (cores_text (stands_for c.args.hyp.now m) 0 cs)) cores in
+    ∙ ap (λ cs. grown (g.K.Sink.taken c.put_vm.new.sink) (cores_text c.args.hyp.now.powers m.cores 0 cs)) cores in
     let failed : IsErr c.from_residual-in_err-write_consoles.result = search rules in
     MatchResult-from_err c.from_residual-in_err-write_consoles.result _ _ failed
     (λ _. part_second _ _ _ _ _ named
@@ -45,7 +45,7 @@ returns-in_err-write_memory-clause-taken g c =
     let named = c.in_ok-put_vm.ensures.taken ∙ ap (λ n. grown (g.K.Sink.taken c.args.sink.now) (vm_line n)) name in
     let cored =
     c.in_ok-write_cores.ensures.taken
-    ∙ ap (λ cs. grown (g.K.Sink.taken c.put_vm.new.sink) (cores_text (stands_for c.args.hyp.now m) 0 cs)) cores in
+    ∙ ap (λ cs. grown (g.K.Sink.taken c.put_vm.new.sink) (cores_text c.args.hyp.now.powers m.cores 0 cs)) cores in
     let shown =
     c.in_ok-write_consoles.ensures.taken ∙ ap (λ ds. grown (g.K.Sink.taken c.write_cores.new.sink) (consoles_text (outputs m.ports) ds)) devs in
     let failed : IsErr c.from_residual-in_err-write_memory.result = search rules in
@@ -68,7 +68,7 @@ returns-clause-taken g c =
     let named = c.in_ok-put_vm.ensures.taken ∙ ap (λ n. grown (g.K.Sink.taken c.args.sink.now) (vm_line n)) name in
     let cored =
     c.in_ok-write_cores.ensures.taken
-    ∙ ap (λ cs. grown (g.K.Sink.taken c.put_vm.new.sink) (cores_text (stands_for c.args.hyp.now m) 0 cs)) cores in
+    ∙ ap (λ cs. grown (g.K.Sink.taken c.put_vm.new.sink) (cores_text c.args.hyp.now.powers m.cores 0 cs)) cores in
     let shown =
     c.in_ok-write_consoles.ensures.taken ∙ ap (λ ds. grown (g.K.Sink.taken c.write_cores.new.sink) (consoles_text (outputs m.ports) ds)) devs in
     let held =

@@ -43,7 +43,7 @@ write_section-requires-clause-space g c =
 
 pub returns-in_err-write_section-clause-taken : goal.returns-in_err-write_section-clause-taken
 returns-in_err-write_section-clause-taken g c =
-    let cfg = checked_data c.args.checked.now in let f = stands_for c.args.hyp.now (g.B.Board.state c.args.board.now) in
+    let cfg = checked_data c.args.checked.now in let f = stands_for cfg c.args.hyp.now (g.B.Board.state c.args.board.now) in
     let vms = c.as_slice-vm-items.result.now in let i = c.loop-vm.vm-index in let vm = c.vm-item.result in
     let failed : IsErr c.from_residual.result = search rules in
     MatchResult-from_err c.from_residual.result _ _ failed
@@ -55,7 +55,7 @@ returns-in_err-write_section-clause-taken g c =
 
 pub loop-vm-preserved : goal.loop-vm-preserved
 loop-vm-preserved g c =
-    let cfg = checked_data c.args.checked.now in let f = stands_for c.args.hyp.now (g.B.Board.state c.args.board.now) in
+    let cfg = checked_data c.args.checked.now in let f = stands_for cfg c.args.hyp.now (g.B.Board.state c.args.board.now) in
     let vms = c.as_slice-vm-items.result.now in let i = c.loop-vm.vm-index in let vm = c.vm-item.result in
     record {
       text =
@@ -70,5 +70,5 @@ loop-vm-preserved g c =
 pub returns-clause-taken : goal.returns-clause-taken
 returns-clause-taken g c =
     ends_whole _ _ _ _ c.loop-vm.invariant.text
-    (sections_none (checked_data c.args.checked.now) (stands_for c.args.hyp.now (g.B.Board.state c.args.board.now))
+    (sections_none (checked_data c.args.checked.now) (stands_for cfg c.args.hyp.now (g.B.Board.state c.args.board.now))
     c.as_slice-vm-items.result.now c.loop-vm.vm-index (omega (arith, c.loop-vm-test.false)))

@@ -8,7 +8,7 @@ use Rattle.report.proofs.whole.write_sections.Given as goal
 
 abbrev pub invariant-loop-vm : goal.invariant-loop-vm
 invariant-loop-vm g l =
-    let cfg = checked_data l.checked in let f = stands_for l.hyp (g.B.Board.state l.board) in
+    let cfg = checked_data l.checked in let f = stands_for cfg l.hyp (g.B.Board.state l.board) in
     record {
       text : Reached (g.K.Sink.taken l.initial.sink) (g.K.Sink.taken l.sink) (sections cfg f cfg.vms)
           (sections cfg f (map vm_data (drop l.vm-index l.vm-items)));

@@ -8,6 +8,6 @@ pub returns-clause-end : goal.returns-clause-end
 returns-clause-end g c =
     let core = c.args.core.now in let request = c.args.request.now in
     let is : is_stopped c.args.core.now c.args.request.now.shape.now ≡ false = search rules in
-    c.take_store.ensures.end
-    ∙ ap (λ effect. carried_out effect (byte_at c.args.memory.now) (g.D.Devices.states c.args.devices.now))
+    λ lists. c.take_store.ensures.end lists
+    ∙ ap (λ effect. carried_out effect lists (byte_at c.args.memory.now) (g.D.Devices.states c.args.devices.now) (g.D.Devices.lines c.args.devices.now))
     (not_stopped core request.fetched.now.instr request.shape.now _ is)

@@ -9,9 +9,9 @@ use Rattle.sim_board.proofs.step.take_load.Goals as goal
 pub returns-in-Refused-clause-end : goal.returns-in-Refused-clause-end
 returns-in-Refused-clause-end g c =
     let request = c.args.request.now in let bytes = byte_at c.args.memory.now in
-    let states = g.D.Devices.states c.args.devices.now in
-    c.refuse_data.ensures bytes states
+    let states = g.D.Devices.states c.args.devices.now in let lines = g.D.Devices.lines c.args.devices.now in
+    λ lists. c.refuse_data.ensures lists bytes states lines
     ∙ ap (λ judged. carried_out
-    (load_effect (port_places (g.D.Devices.spots c.args.devices.now)) c.args.core.now request.fetched.now.count request.fetched.now.instr request.shape.now judged)
-    bytes states)
+    (load_effect (port_places (g.D.Devices.spots c.args.devices.now)) c.args.core.now request.fetched.now.moment request.fetched.now.instr request.shape.now judged)
+    lists bytes states lines)
     (not_at_all _ _ _ _ c.in-Refused.fault c.in-Refused.ensures.way)

@@ -30,6 +30,7 @@ loop-i-preserved g c =
           ∙ c.loop-i.invariant.states;
       room = room_of_more _ items i (2 * c.args.events) c.reserve_one.new.port low enough c.loop-i.invariant.room;
       spots = c.loop-i.invariant.spots;
+      lines = c.loop-i.invariant.lines;
     }
 
 pub returns-in_err-reserve_one-clause-states : goal.returns-in_err-reserve_one-clause-states

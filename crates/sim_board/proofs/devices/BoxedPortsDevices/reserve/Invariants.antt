@@ -11,4 +11,5 @@ invariant-loop-i g l = record {
       (k : ℕ) → k < l.i
       → 2 * l.events ≤ get_or (map (λ port. (goal.Port-dyn g (port.vtable, port.value)).spare port.value) l.self.ports.items) k 0;
   spots : l.self.spots.items ≡ l.initial.self.spots.items;
+  lines : l.self.lines ≡ l.initial.self.lines;
 }

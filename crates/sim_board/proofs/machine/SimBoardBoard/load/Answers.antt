@@ -16,7 +16,9 @@ invariant_of-self g c =
     record {
       sound = record {
         used = still_used (shape_data self.shape) self.memory c.in-Some.memory c.copy_in.new.memory memory c.copy_in.ensures.kept self.sound.used;
+        few = self.sound.few;
         cores = self.sound.cores;
+        lists = self.sound.lists;
         entries_len = self.sound.entries_len;
         confined = self.sound.confined;
         spots = self.sound.spots;

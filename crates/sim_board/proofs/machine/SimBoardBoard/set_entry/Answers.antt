@@ -14,7 +14,9 @@ invariant_of-self g c =
     record {
       sound = record {
         used = self.sound.used;
+        few = self.sound.few;
         cores = self.sound.cores;
+        lists = self.sound.lists;
         entries_len = c.set_one.ensures.len ∙ self.sound.entries_len;
         confined =
             subst (All (All (IsConfined (shape_data self.shape)))) (sym c.set_one.ensures.items)

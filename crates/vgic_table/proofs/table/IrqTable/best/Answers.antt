@@ -1,6 +1,7 @@
-use Rattle.std.proofs.Common.{arith, ◌≡◌, refl, ◌+◌, min, ℕ, add-one}
+use Rattle.std.proofs.Common.{arith, ◌≡◌, refl, sym, rules, ◌+◌, min, ℕ, add-one}
 use Rattle.vgic_iface.specs.Rank.{least}
 use Rattle.vgic_table.specs.Interrupts.{rank_at}
+use Rattle.vgic_table.proofs.RankLemmas.{best-off}
 use Rattle.vgic_table.proofs.table.IrqTable.best.Goals as goal
 
 -- one more id
@@ -17,3 +18,6 @@ loop-id-preserved c = (
   rw (least-more (rank_at c.args.self.now c.args.core) c.loop-id.id, ← c.loop-id.invariant.0, ← c.rank_at.ensures.value) c.min-best.ensures,
   omega (arith, c.loop-id.invariant.1, c.min-best.ensures),
 )
+
+pub returns-then-not-self-clause-value : goal.returns-then-not-self-clause-value
+returns-then-not-self-clause-value c = sym (best-off c.args.self.now c.args.core (search rules))
