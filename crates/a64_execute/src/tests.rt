@@ -698,11 +698,7 @@ fn effect_agrees(rt: &impl Abort, row: &Effect) {
         core.sp0,
         core == expected,
     );
-    assert_eq!(rt;
-        seen,
-        (pc_after, expected.pstate, x0, sp0, true),
-        "{shows}"
-    );
+    assert_eq!(rt; seen, (pc_after, expected.pstate, x0, sp0, true), "{shows}");
 }
 
 /// Sets the flags, the masks and the mode to those of a number, if it has a mode.

@@ -69,7 +69,9 @@ fn read_register(core: &Core, moment: Moment, id: SysId) -> SysRead
     ensures { result ≡ read_answer core.now moment id }
 {
     match register_of(id) {
-        Some(register) if register.rights(core.mode()).allows_read() => read(core, moment, register),
+        Some(register) if register.rights(core.mode()).allows_read() => read(
+            core, moment, register,
+        ),
         Some(_) | None => SysRead::Undefined,
     }
 }

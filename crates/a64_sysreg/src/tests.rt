@@ -175,7 +175,11 @@ fn acknowledging_register(rt: HostRuntime) {
 }
 
 fn check_acknowledges(rt: &impl Abort, name: &str, number: [u8; 5]) {
-    assert_eq!(rt; acknowledges(sys_id(number)), name == "ICC_IAR1_EL1", "{name}");
+    assert_eq!(rt;
+        acknowledges(sys_id(number)),
+        name == "ICC_IAR1_EL1",
+        "{name}"
+    );
 }
 
 /// What is written to ICC_EOIR1_EL1 at EL1, and what comes of it.

@@ -5,5 +5,6 @@ pub mod Hyp
 pub mod Seat
 pub mod Again
 pub mod Tidy
+pub mod Change
 pub mod Steps
 pub mod Taken

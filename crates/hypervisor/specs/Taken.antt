@@ -7,16 +7,16 @@ use Rattle.board.specs.Attempt.{Outcome, Ran, Leave}
 use Rattle.board.specs.declared.board.Exit.{Exit}
 use Rattle.board.specs.declared.board.Exit.TheVariants as exit
 use Rattle.board.specs.Interrupts.{is_raised}
-use Rattle.board.specs.Machine.{Machine, carried_out, exit_after, lists_at, machine_effect, port_given}
-use Rattle.vgic_iface.specs.Interface.{best_listed}
+use Rattle.board.specs.Machine.{Machine, carried_out, exit_after, machine_effect, port_given, ticked}
 use Rattle.vgic_iface.specs.Rank.{id_end}
 use Rattle.vgic_table.specs.Interrupts.{Interrupts}
 use Rattle.vgic_table.specs.Changes.{made_inactive, made_pending}
 use Rattle.vm_model.specs.Duty.{done, duty_of, is_not_built}
 use Rattle.vm_model.specs.Flat.{flat_forwarded, flat_ready, runs}
 use Rattle.vm_model.specs.Guests.{Guests, tables_of}
-use Rattle.vm_model.specs.Interrupts.{best_of, with_table}
+use Rattle.vm_model.specs.Interrupts.{with_table}
 use Rattle.vm_model.specs.Project.{joined_tables}
+use Rattle.hypervisor.specs.Change.{Change, IsListed}
 use Rattle.hypervisor.specs.Hyp.{HypData, stands_for}
 use Rattle.hypervisor.specs.declared.seat.Seat.{Seat}
 use Rattle.hypervisor.specs.Seat.{IsSeatOf, line_of}
@@ -36,13 +36,6 @@ with_cores m cores = record m { cores = cores }
 -- and these list registers
 abbrev pub with_registers : Machine → List CoreData → List (List ListRegData) → Machine
 with_registers m cores lists = record m { cores = cores; lists = lists }
-
--- a hypervisor and a board before an event, or a part of one, and after it
-pub record Change : Type 0 where
-  pub old : HypData
-  pub new : HypData
-  pub before : Machine
-  pub after : Machine
 
 -- Hypervisor and board have what the hypervisor works on, and hold the interrupts as before. Of the board nothing else has changed.
 pub record IsLeft (cfg : ConfigData) (change : Change) (guests : Guests) : Type 0 where
@@ -64,13 +57,9 @@ pub record IsForwarded (cfg : ConfigData) (core : ℕ) (change : Change) : Type 
   pub board :
       change.after ≡ record change.before { lists = change.after.lists; lines = change.after.lines }
 
--- the best interrupt of a core stands in its list registers
-abbrev pub IsListed : ConfigData → HypData → Machine → ℕ → Type 0
-IsListed cfg hyp m core =
-    best_of cfg (joined_tables cfg m.lists (tables_of hyp.tables)) core ≡ best_listed (lists_at m.lists core)
-
 -- A core that runs has taken a step at a count, from a state in which no line is raised for it and its best interrupt is listed.
--- That state stands for the model's before the step, and the step has ended so.
+-- That state stands for the model's before the step, and the step has ended so. Where the best interrupt was listed before, and
+-- no line comes to be raised for the core, nothing has been done but to look at the core's timer.
 pub record IsEntered (cfg : ConfigData) (change : Change) (core count : ℕ) (ended : Exit) : Type 0 where
   pub hyp : HypData
   pub board : Machine
@@ -85,6 +74,9 @@ pub record IsEntered (cfg : ConfigData) (change : Change) (core count : ℕ) (en
   pub new : change.new ≡ hyp
   pub after : change.after ≡ carried_out board core (machine_effect board core count)
   pub exit : ended ≡ exit_after board core count
+  pub calm :
+      IsListed cfg change.old change.before core → is_raised (ticked change.before core count).lines core ≡ false
+      → (hyp ≡ change.old) × (board ≡ ticked change.before core count)
 
 -- an interrupt of a virtual core that stands in none of its list registers has ended
 abbrev pub ended_guests : ℕ → ℕ → ℕ → Guests → Guests

@@ -15,6 +15,7 @@ ghost use Rattle.vm_model.specs.Duty.{all_off, answered, arguments, call_duty, c
 ghost use Rattle.vm_model.specs.Interrupts.{with_table};
 ghost use Rattle.vm_model.specs.Flat.{flat_step, is_entered, is_event_unbuilt, is_on};
 ghost use Rattle.vm_model.specs.Guests.{tables_of};
+ghost use Rattle.hypervisor.specs.Change.{IsBestKept, IsLeftToBoard};
 ghost use Rattle.hypervisor.specs.Event.{flat_event, IsOnBoard, IsPlaced};
 ghost use Rattle.hypervisor.specs.Hyp.{boot_tables, power_of, stands_for};
 ghost use Rattle.hypervisor.specs.Tidy.{Tidy};
@@ -24,8 +25,8 @@ ghost use Rattle.vm_model.specs.Park.{parks};
 
 use crate::event::Event;
 use crate::owners::{owner, virtual_core, vm_at};
-use crate::seat::{Seat, seat_at, seat_of};
 use crate::park::{immediate, is_call, is_smc, parks};
+use crate::seat::{Seat, seat_at, seat_of};
 use arrayvec::ArrayVec;
 use bao_config::{Config, Vm};
 use bao_wellformed::{Checked, has_core};
@@ -105,6 +106,10 @@ impl Hyp {
         ensures spent { (B.state board.new).spent ≤ (B.state board.old).spent + 1 }
         ensures shape { (B.state board.new).shape ≡ (B.state board.old).shape }
         ensures entries { (B.state board.new).entries ≡ (B.state board.old).entries }
+        ensures quiet { IsLeftToBoard (checked_data checked.now)
+            (record { old = self.old; new = self.new; before = B.state board.old; after = B.state board.new }) event.now }
+        ensures best { IsBestKept (checked_data checked.now)
+            (record { old = self.old; new = self.new; before = B.state board.old; after = B.state board.new }) event.now }
     {
         self.take(checked.config(), board, event)
     }

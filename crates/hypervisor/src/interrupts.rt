@@ -15,8 +15,8 @@ ghost use Rattle.hypervisor.specs.Tidy.{Tidy};
 use crate::hyp::Hyp;
 use crate::owners::vm_at;
 use crate::seat::{Seat, holder, irq_of_line};
-use bao_config::Config;
 use arrayvec::ArrayVec;
+use bao_config::Config;
 use bao_types::ListReg;
 use board::Board;
 use vgic_table::IrqTable;
@@ -170,14 +170,22 @@ fn set_filled<B: Board>(board: &mut B, core: u8, filled: Option<[ListReg; 4]>)
 }
 
 /// Fills list registers of a virtual core again from its VM's table, where that is due.
-fn refill(tables: &mut ArrayVec<IrqTable, 8>, seat: Seat, lists: &[ListReg; 4]) -> Option<[ListReg; 4]>
+fn refill(
+    tables: &mut ArrayVec<IrqTable, 8>,
+    seat: Seat,
+    lists: &[ListReg; 4],
+) -> Option<[ListReg; 4]>
     requires vm { seat.vm < length tables.old.items }
     requires own { seat.own < (tables_of tables.old.items seat.vm).cores }
     ensures lists { result ≡ refilled (tables_of tables.old.items seat.vm) seat.own lists.now }
     ensures tables { tables.new.items
         ≡ slice_set tables.old.items seat.vm (filled_again (tables_of tables.old.items seat.vm) seat.own lists.now) }
 {
-    refill_table(&mut tables.as_mut_slice()[usize::from(seat.vm)], seat.own, lists)
+    refill_table(
+        &mut tables.as_mut_slice()[usize::from(seat.vm)],
+        seat.own,
+        lists,
+    )
 }
 
 /// Fills list registers of a virtual core again from the table of its VM, where that is due.

@@ -15,7 +15,7 @@ drop_active-requires-clause-own g c =
     let m = g.B.Board.state c.args.board.now in let tables = c.args.self.now.tables in let seat = c.args.seat in
     let back = joined (tables_of tables seat.vm) seat.own (lists_at m.lists seat.core) in
     let same = ap (λ (hyp : HypData). tables_of hyp.tables seat.vm) c.self.view_is ∙ ap (λ ts. tables_of ts seat.vm) c.take_back.ensures.tables
-        ∙ get_or-set_same tables seat.vm back (quiet_interrupts 0) c.requires.vm in
+    ∙ get_or-set_same tables seat.vm back (quiet_interrupts 0) c.requires.vm in
     subst (λ (t : Interrupts). seat.own < t.cores) (sym same)
     (subst (λ n. seat.own < n) (sym (frame-joined (tables_of tables seat.vm) seat.own (lists_at m.lists seat.core)).cores) c.requires.own)
 

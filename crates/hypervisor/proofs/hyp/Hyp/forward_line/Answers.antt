@@ -38,7 +38,7 @@ returns-in-Some g c =
     (sym c.in-Some.is ∙ c.irq_of_line.ensures ∙ ap (λ o. line_of cfg o c.args.intid) (sym c.vm_at.ensures))
     (left_by_change cfg c.requires.well_formed c.args.config.now.fits old c.pend.new.self m (g.B.Board.state c.pend.new.board) c.requires.tidy
     c.holder-holder.result c.holder-holder.ensures.seat c.args.seat.vm c.args.seat.own c.in-Some.irq (λ state. record state { pending = true })
-    c.holder-holder.ensures.vm c.holder-holder.ensures.own 
+    c.holder-holder.ensures.vm c.holder-holder.ensures.own
     (line_bound cfg c.args.config.now.fits c.args.seat.vm c.args.intid c.in-Some.irq (vm_data c.vm_at.result.now) c.vm_at.ensures
     (sym c.irq_of_line.ensures ∙ c.in-Some.is)) c.pend.ensures.state c.pend.ensures.powers
     c.pend.ensures.tables)
