@@ -7,6 +7,10 @@ pub mod Calls
 pub mod Seats
 pub mod Held
 pub mod Moves
+pub mod Left
+pub mod Carried
+pub mod Composed
+pub mod Events
 pub mod RaisedMasks
 pub mod Raised
 pub mod RaisedTaken

@@ -57,7 +57,7 @@ numbers_alike cfg [] number = refl
 numbers_alike cfg (port ∷ ports) number = ap (λ b. (port.id == number) || b) (numbers_alike cfg ports number)
 
 -- a port that a VM is given is one of the platform's
-given_is_there : (cfg : ConfigData) (port : ℕ) → IsWellFormed cfg → is_assigned cfg port ≡ true
+pub given_is_there : (cfg : ConfigData) (port : ℕ) → IsWellFormed cfg → is_assigned cfg port ≡ true
     → IsTrue (list_any (λ place. place.id == port) cfg.platform.ports)
 given_is_there cfg port well_formed assigned =
     let vm = any_got (has_port port) cfg.vms assigned in

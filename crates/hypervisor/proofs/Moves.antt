@@ -64,7 +64,7 @@ module _ (cfg : ConfigData) (well_formed : IsWellFormed cfg) (fits : ConfigFits 
   l_is = here cfg well_formed fits v k core vm place at tables lists held low
 
   -- one core's registers and its VM's table are others
-  moved : (new : List ListRegData) (table : Interrupts) (change : Interrupts → Interrupts) → SameFrame t table
+  pub moved : (new : List ListRegData) (table : Interrupts) (change : Interrupts → Interrupts) → SameFrame t table
       → StandFor (change (joined_cores 0 rs t)) (slice_set rs k new) table
       → Hold cfg (slice_set tables v table) (slice_set lists core new) (with_table (Some v) change (joined_tables cfg lists (tables_of tables)))
   moved new table change frame stands = record {

@@ -126,8 +126,8 @@ module _ (vm : Interrupts) (all : List (List ListRegData)) (core : ℕ) (is : Is
   pub moved : (table : Interrupts) (new : List ListRegData) → DiffersAt core vm table → Tidy table core new → AreTidy 0 (slice_set all core new) table
   moved table new differs fits = all-moved core vm table differs 0 core all new at (omega (arith, few)) fits tidy
 
-  pub core-acknowledges : (iface : IfaceData) → iface.pmr < 256 → BestIsListed vm core (lists_of all core) → CoreAcknowledges vm all core iface
-  core-acknowledges iface small listed =
+  pub core-acknowledges : (iface : IfaceData) → BestIsListed vm core (lists_of all core) → CoreAcknowledges vm all core iface
+  core-acknowledges iface listed =
       record {
         value = among.value ∙ ap (λ t. signal t core iface) (sym (core-last vm));
         listed = ap (λ t. best t core) (core-last vm) ∙ best-listed (others vm) core below (shaped-others vm shaped) (lists_of all core) (tidy-others vm (lists_of all core) own-tidy) comes;
@@ -145,10 +145,10 @@ module _ (vm : Interrupts) (all : List (List ListRegData)) (core : ℕ) (is : Is
       comes = subst (λ b. best_listed (lists_of all core) ≤ b) (sym (best-others vm)) listed
 
       alone : Acknowledges vm core iface (lists_of all core)
-      alone = acknowledges vm core below shaped (lists_of all core) own-tidy iface small listed
+      alone = acknowledges vm core below shaped (lists_of all core) own-tidy iface listed
 
       among : Acknowledges (others vm) core iface (lists_of all core)
-      among = acknowledges (others vm) core below (shaped-others vm shaped) (lists_of all core) (tidy-others vm (lists_of all core) own-tidy) iface small comes
+      among = acknowledges (others vm) core below (shaped-others vm shaped) (lists_of all core) (tidy-others vm (lists_of all core) own-tidy) iface comes
 
   pub core-ends : (id : ℕ) → (is_unlisted (lists_of all core) id ≡ true → belongs vm core id ≡ true) → CoreEnds vm all core id
   core-ends id owned =

@@ -1,8 +1,10 @@
 -- Acknowledgement and end, by list registers and by all interrupts.
-use Rattle.std.proofs.Common.{◌≡◌, ℕ, ◌+◌, ◌*◌, ◌/◌, ◌%◌, ◌<◌, ◌≤◌, nat_lt, min, Bool, true, false, not, ◌&&◌, if◌then◌else◌, List, Option, Some, None, find, refl, ap, sym, subst, ◌∙◌, arith, ◌⊎◌, inl, inr}
+use Rattle.std.proofs.Common.{◌≡◌, ℕ, ◌+◌, ◌*◌, ◌/◌, ◌%◌, ◌<◌, ◌≤◌, ◌==◌, nat_lt, min, Bool, true, false, not, ◌&&◌, if◌then◌else◌, List, Option, Some, None, find, refl, ap, sym, subst, ◌∙◌, arith, ◌⊎◌, inl, inr}
+use Rattle.std.specs.Int.{trailing_zeros, w32}
 use Rattle.std.specs.Option.{option_map_or}
 use Rattle.std.proofs.lemmas.Bool.{false≢true}
 use Rattle.std.proofs.lemmas.Bool.Decides.{nat_tests}
+use Rattle.std.proofs.lemmas.Nat.{trailing_le}
 use Rattle.bao_types.specs.ListReg.{ListRegData}
 use Rattle.bao_types.specs.IfaceRegs.{IfaceData}
 use Rattle.vgic_iface.specs.Active.{running}
@@ -27,7 +29,7 @@ pub record Holder (lists : List ListRegData) (best : ℕ) : Type 0 where
   pub within : id_of best < 96
   pub found : find (holds (id_of best)) lists ≡ Some list
 
-holder : (vm : Interrupts) (core : ℕ) (lists : List ListRegData) → Tidy vm core lists → best_listed lists < no_rank → Holder lists (best_listed lists)
+pub holder : (vm : Interrupts) (core : ℕ) (lists : List ListRegData) → Tidy vm core lists → best_listed lists < no_rank → Holder lists (best_listed lists)
 holder vm core lists tidy some = by_kind (least-found (listed_rank lists) id_end)
   where
     part : (p id best : ℕ) → id < 96 → best ≡ 128 * p + id → id ≡ best % 128
@@ -54,18 +56,25 @@ holder vm core lists tidy some = by_kind (least-found (listed_rank lists) id_end
     by_kind (inl none) = absurd (omega (arith, none, some))
     by_kind (inr (id, within, is)) = by_found id (find (holds id) lists) within refl is
 
--- a signalled rank is one
-below_none : (iface : IfaceData) (best : ℕ) → iface.pmr < 256 → is_signalled iface best ≡ true → best < no_rank
-below_none iface best small on = by_group iface.group on
+-- a signalled rank is one: the running priority is at most 256
+below_none : (iface : IfaceData) (best : ℕ) → is_signalled iface best ≡ true → best < no_rank
+below_none iface best on = by_group iface.group on
   where
-    lower : (pmr run : ℕ) → pmr < 256 → best / 128 < min pmr run → best < 32768
-    lower pmr run small less = omega arith
+    lower : (pmr run : ℕ) → run ≤ 256 → best / 128 < min pmr run → best < 32768
+    lower pmr run few less = omega arith
+
+    most : (active : ℕ) → running active ≤ 256
+    most active = by_none (active == 0)
+      where
+        by_none : (none : Bool) → (if none then 0xff else 8 * trailing_zeros w32 active) ≤ 256
+        by_none true = omega arith
+        by_none false = let few = trailing_le 32 active in omega (arith, few)
 
     less_of : (a b : ℕ) → nat_lt a b ≡ true → a < b
     less_of a b is = grind (arith, nat_tests)
 
     by_group : (group : Bool) → (group && nat_lt (best / 128) (min iface.pmr (running iface.active))) ≡ true → best < no_rank
-    by_group true is = lower iface.pmr (running iface.active) small (less_of (best / 128) (min iface.pmr (running iface.active)) is)
+    by_group true is = lower iface.pmr (running iface.active) (most iface.active) (less_of (best / 128) (min iface.pmr (running iface.active)) is)
     by_group false is = absurd (false≢true is)
 
 module _ (vm : Interrupts) (core : ℕ) (below : core < 8) (shaped : IsShaped vm) (lists : List ListRegData) (tidy : Tidy vm core lists) where
@@ -73,8 +82,8 @@ module _ (vm : Interrupts) (core : ℕ) (below : core < 8) (shaped : IsShaped vm
   pub best-listed : BestIsListed vm core lists → best (joined vm core lists) core ≡ best_listed lists
   best-listed listed = omega (arith, best-joined vm core lists below shaped tidy, listed)
 
-  pub acknowledges : (iface : IfaceData) → iface.pmr < 256 → BestIsListed vm core lists → Acknowledges vm core iface lists
-  acknowledges iface small listed =
+  pub acknowledges : (iface : IfaceData) → BestIsListed vm core lists → Acknowledges vm core iface lists
+  acknowledges iface listed =
       record {
         value = ap (signalled iface) same;
         interface = ap (acknowledged iface) same;
@@ -91,7 +100,7 @@ module _ (vm : Interrupts) (core : ℕ) (below : core < 8) (shaped : IsShaped vm
           joined vm core (if test then with_holder made_active (id_of (best_listed lists)) lists else lists)
           ≡ (if test then taken (joined vm core lists) core (id_of (best_listed lists)) else joined vm core lists)
       by_test true is =
-          let at = holder vm core lists tidy (below_none iface (best_listed lists) small is) in
+          let at = holder vm core lists tidy (below_none iface (best_listed lists) is) in
           joined-holder vm core lists (id_of (best_listed lists)) made_active (λ state. record state { pending = false; active = true })
           below at.within shaped tidy at.list at.found (made_active-changes core (id_of (best_listed lists)) below at.within)
       by_test false is = refl

@@ -24,7 +24,7 @@ pub fn laws_of_registers()
     ensures listed { (vm : Interrupts) (core : ℕ) (lists : List ListRegData) → core < 8 → IsShaped vm → Tidy vm core lists →
         BestIsListed vm core lists → best (joined vm core lists) core ≡ best_listed lists }
     ensures acknowledge { (vm : Interrupts) (core : ℕ) (iface : IfaceData) (lists : List ListRegData) → core < 8 →
-        IsShaped vm → iface.pmr < 256 → Tidy vm core lists → BestIsListed vm core lists → Acknowledges vm core iface lists }
+        IsShaped vm → Tidy vm core lists → BestIsListed vm core lists → Acknowledges vm core iface lists }
     ensures end { (vm : Interrupts) (core id : ℕ) (lists : List ListRegData) → core < 8 → IsShaped vm →
         Tidy vm core lists → Ends vm core lists id }
     ensures refill { (vm : Interrupts) (core : ℕ) (lists : List ListRegData) → core < 8 → IsShaped vm →
@@ -37,7 +37,7 @@ pub fn laws_of_registers()
 /// of the VM is the same for all its cores.
 pub fn laws_of_cores()
     ensures acknowledge { (vm : Interrupts) (all : List (List ListRegData)) (core : ℕ) (iface : IfaceData) →
-        IsCoreOf vm all core → iface.pmr < 256 → BestIsListed vm core (lists_of all core) → CoreAcknowledges vm all core iface }
+        IsCoreOf vm all core → BestIsListed vm core (lists_of all core) → CoreAcknowledges vm all core iface }
     ensures end { (vm : Interrupts) (all : List (List ListRegData)) (core id : ℕ) → IsCoreOf vm all core →
         (is_unlisted (lists_of all core) id ≡ true → belongs vm core id ≡ true) → CoreEnds vm all core id }
     ensures collect { (vm : Interrupts) (all : List (List ListRegData)) (core : ℕ) → IsCoreOf vm all core → CoreCollects vm all core }

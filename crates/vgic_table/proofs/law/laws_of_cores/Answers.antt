@@ -4,7 +4,7 @@ use Rattle.vgic_table.proofs.CoresLemmas.{all_free, core-acknowledges, core-chan
 use Rattle.vgic_table.proofs.law.laws_of_cores.Goals as goal
 
 pub returns-clause-acknowledge : goal.returns-clause-acknowledge
-returns-clause-acknowledge c vm all core iface is small listed = core-acknowledges vm all core is iface small listed
+returns-clause-acknowledge c vm all core iface is listed = core-acknowledges vm all core is iface listed
 
 pub returns-clause-end : goal.returns-clause-end
 returns-clause-end c vm all core id is owned = core-ends vm all core is id owned

@@ -14,7 +14,7 @@ pub returns-clause-listed : goal.returns-clause-listed
 returns-clause-listed c vm core lists below shaped tidy listed = best-listed vm core below shaped lists tidy listed
 
 pub returns-clause-acknowledge : goal.returns-clause-acknowledge
-returns-clause-acknowledge c vm core iface lists below shaped small tidy listed = acknowledges vm core below shaped lists tidy iface small listed
+returns-clause-acknowledge c vm core iface lists below shaped tidy listed = acknowledges vm core below shaped lists tidy iface listed
 
 pub returns-clause-end : goal.returns-clause-end
 returns-clause-end c vm core id lists below shaped tidy = ends vm core below shaped lists tidy id
