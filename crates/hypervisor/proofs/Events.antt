@@ -1,6 +1,6 @@
 -- An event on the machine is a step of the model; and what of it is left to the board alone.
 use Rattle.std.proofs.Common.{◌≡◌, ℕ, ◌+◌, ◌<◌, ◌≤◌, Bool, true, false, List, [], ◌∷◌, find, length, map, refl, sym, ap, subst, ◌∙◌, arith}
-use Rattle.std.specs.Prelude.{◌&&◌, ◌||◌, not, nat_lt, IsTrue, if◌then◌else◌, Option, None, Some, is_some, slice_get, slice_index_or, slice_set, unwrap_or}
+use Rattle.std.specs.Prelude.{◌==◌, ◌&&◌, ◌||◌, not, nat_lt, IsTrue, if◌then◌else◌, Option, None, Some, is_some, slice_get, slice_index_or, slice_set, unwrap_or}
 use Rattle.std.specs.List.{list_any}
 use Rattle.std.proofs.lemmas.Bool.{false≢true}
 use Rattle.std.proofs.lemmas.List.{get_or-set_same}
@@ -24,7 +24,7 @@ use Rattle.vgic_table.specs.Registers.{Tidy as FitsTable}
 use Rattle.vgic_table.proofs.CoresLemmas.{own-tidy}
 use Rattle.vgic_table.proofs.LawLemmas.{holder}
 use Rattle.vm_model.specs.Cores.{place_of, virtual_core}
-use Rattle.vm_model.specs.Flat.{Flat, flat_duty, flat_effect, flat_given, flat_guests, flat_ready, flat_step, flat_stepped, is_entered, is_event_unbuilt, is_on, runs}
+use Rattle.vm_model.specs.Flat.{Flat, Step, Input, flat_duty, flat_effect, flat_given, flat_guests, flat_ready, flat_step, flat_stepped, is_entered, is_event_unbuilt, is_on, runs}
 use Rattle.vm_model.specs.Duty.{done, is_not_built}
 use Rattle.vm_model.specs.Interrupts.{best_of}
 use Rattle.vm_model.specs.Project.{is_port_raised}
@@ -32,7 +32,7 @@ use Rattle.vm_model.proofs.Lists.{placed_got}
 use Rattle.hypervisor.specs.Change.{Change, IsBestKept, IsLeftToBoard, IsListed, IsOfBoard, IsQuiet, goes_on}
 use Rattle.hypervisor.specs.Event.{IsPlaced, flat_event, is_assigned}
 use Rattle.hypervisor.specs.declared.event.Event.{Event}
-use Rattle.hypervisor.specs.declared.event.Event.TheVariants.{Step, Input}
+use Rattle.hypervisor.specs.declared.event.Event.TheVariants as event
 use Rattle.hypervisor.specs.Hyp.{HypData, stands_for}
 use Rattle.hypervisor.specs.Seat.{IsSeatOf}
 use Rattle.hypervisor.specs.declared.seat.Seat.{Seat}
@@ -157,7 +157,7 @@ module _ (cfg : ConfigData) (well_formed : IsWellFormed cfg) (fits : ConfigFits 
     left =
         settled_left cfg well_formed fits hyp m entry.tidy seat at count entry.listed change.new change.after run.ended exit_is settled
 
-    ready : Flat
+    abbrev ready : Flat
     ready = flat_ready cfg f core count
 
     state : stands_for cfg change.new change.after ≡ flat_step cfg f (Step core count)
@@ -205,7 +205,7 @@ module _ (cfg : ConfigData) (well_formed : IsWellFormed cfg) (fits : ConfigFits 
         same : IsSame (record { old = hyp; new = change.new; before = carried_out m core effect; after = change.after })
         same = same_of (entry.exit ∙ ap (λ b. exit_after b core count) calm.1 ∙ is.ran)
 
-    best : IsBestKept cfg change (Step core count)
+    best : IsBestKept cfg change (event.Step core count)
     best _ goes some =
         subst (λ b. list_any (holds (id_of b)) (lists_at change.after.lists core) ≡ true) (sym best_is)
         (ap (list_any (holds (id_of (best_listed lists)))) after_is
@@ -238,7 +238,7 @@ module _ (cfg : ConfigData) (well_formed : IsWellFormed cfg) (fits : ConfigFits 
             (subst (λ b. b < no_rank) best_is some) in
             found_any (holds (id_of (best_listed lists))) lists there.list there.found
 
-    pub run_modelled : IsModelled cfg change (Step core count) built
+    pub run_modelled : IsModelled cfg change (event.Step core count) built
     run_modelled = record {
       tidy =
           settled_tidy cfg well_formed fits hyp m entry.tidy seat at count entry.listed change.new change.after run.ended exit_is settled;
@@ -256,7 +256,7 @@ module _ (cfg : ConfigData) (well_formed : IsWellFormed cfg) (fits : ConfigFits 
 
   -- a core that doesn't
   waiting : (core count : ℕ) → runs cfg f core ≡ false → IsWaiting change built → Tidy cfg change.old change.before
-      → IsModelled cfg change (Step core count) built
+      → IsModelled cfg change (event.Step core count) built
   waiting core count off wait tidy = record {
     tidy =
         subst (λ h. Tidy cfg h change.after) (sym wait.same.hyp) (subst (Tidy cfg change.old) (sym wait.same.board) tidy);
@@ -278,7 +278,7 @@ module _ (cfg : ConfigData) (well_formed : IsWellFormed cfg) (fits : ConfigFits 
 
   -- a byte for a port
   given : (port byte : ℕ) → is_assigned cfg port ≡ true → IsGiven change port byte → built ≡ true → Tidy cfg change.old change.before
-      → IsModelled cfg change (Input port byte) built
+      → IsModelled cfg change (event.Input port byte) built
   given port byte assigned is all tidy = record {
     tidy = subst (λ h. Tidy cfg h change.after) (sym is.hyp) (subst (Tidy cfg change.old) (sym is.board) after);
     state =
@@ -320,22 +320,22 @@ module _ (cfg : ConfigData) (well_formed : IsWellFormed cfg) (fits : ConfigFits 
 
   -- every event
   pub modelled : (e : Event) → Tidy cfg change.old change.before → IsPlaced cfg e → IsAfter cfg change e built → IsModelled cfg change e built
-  modelled (Step core count) tidy placed after = by_run (runs cfg f core) refl after
+  modelled (event.Step core count) tidy placed after = by_run (runs cfg f core) refl after
     where
       owned : (some up : Bool) → (some && up) ≡ true → some ≡ true
       owned true up e = refl
       owned false up e = e
 
-      by_run : (on : Bool) → runs cfg f core ≡ on → IsSteppedIf on cfg change core count built → IsModelled cfg change (Step core count) built
+      by_run : (on : Bool) → runs cfg f core ≡ on → IsSteppedIf on cfg change core count built → IsModelled cfg change (event.Step core count) built
       by_run true on run =
           let seat = seated cfg core (owned (is_some (owner cfg core)) (is_on (slice_get change.old.powers core)) on) in
           seated_run seat.0 seat.1 seat.2 on run
         where
           seated_run : (seat : Seat) → seat.core ≡ core → IsSeatOf cfg core seat → runs cfg f core ≡ true
-              → IsRun cfg change core count built → IsModelled cfg change (Step core count) built
+              → IsRun cfg change core count built → IsModelled cfg change (event.Step core count) built
           seated_run seat same at on run =
-              subst (λ c. IsModelled cfg change (Step c count) built) same
+              subst (λ c. IsModelled cfg change (event.Step c count) built) same
               (run_modelled seat (subst (λ c. IsSeatOf cfg c seat) (sym same) at) count (ap (runs cfg f) same ∙ on)
               (subst (λ c. IsRun cfg change c count built) (sym same) run))
       by_run false off wait = waiting core count off wait tidy
-  modelled (Input port byte) tidy placed after = given port byte placed after.0 after.1 tidy
+  modelled (event.Input port byte) tidy placed after = given port byte placed after.0 after.1 tidy

@@ -9,8 +9,11 @@ pub mod Held
 pub mod Moves
 pub mod Left
 pub mod Carried
+pub mod Settled
 pub mod Composed
 pub mod Events
 pub mod RaisedMasks
 pub mod Raised
 pub mod RaisedTaken
+pub mod Forwarded
+pub mod Entered

@@ -34,9 +34,9 @@ pub record IsQuiet (cfg : ConfigData) (change : Change) (core count : ℕ) : Typ
   pub listed : IsListed cfg change.old change.before core
 
 -- the board has become this, by itself: the hypervisor keeps what it kept
-pub record IsOfBoard (change : Change) (board : Machine) : Type 0 where
+pub record IsOfBoard (change : Change) (now : Machine) : Type 0 where
   pub hyp : change.new ≡ change.old
-  pub board : change.after ≡ board
+  pub board : change.after ≡ now
 
 -- What is left to the machine: a quiet step and an input are the board's alone, and a core that doesn't run changes nothing.
 abbrev pub IsLeftToBoard : ConfigData → Change → Event → Type 0

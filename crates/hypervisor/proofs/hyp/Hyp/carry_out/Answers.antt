@@ -1,64 +1,103 @@
-use Rattle.std.proofs.Common.{refl, sym, subst, ap, ◌∙◌}
-use Rattle.std.specs.Prelude.{slice_get, slice_index}
+use Rattle.std.proofs.Common.{sym, subst, ap, ◌∙◌}
+use Rattle.std.specs.Prelude.{slice_get, slice_set}
+use Rattle.std.proofs.lemmas.Option.{slice_get_within}
 use Rattle.bao_config.specs.Config.{config_data}
-use Rattle.bao_config.specs.Data.{vm_data}
-use Rattle.board.specs.Machine.{with_core}
 use Rattle.hypercalls.specs.Laws.{IsLawful}
-use Rattle.hypercalls.specs.declared.outcome.Outcome.TheVariants as call
-use Rattle.vm_model.specs.Duty.{carried, cores_of, powers_of}
-use Rattle.vm_model.specs.Guests.{tables_of}
+use Rattle.hypercalls.specs.declared.power.Power.TheVariants as power
+use Rattle.vm_model.specs.Duty.{all_off, carried, cores_of, powers_of, turned_on}
 use Rattle.hypervisor.specs.Taken.{IsLeft, guests_of}
-use Rattle.hypervisor.specs.Tidy.{core_counts}
-use Rattle.hypervisor.proofs.Calls.{own_on_platform, start_lawful, starts_alike}
-use Rattle.hypervisor.proofs.Models.{core_on_board}
+use Rattle.hypervisor.proofs.Calls.{start_lawful}
+use Rattle.hypervisor.proofs.Left.{left_on, left_powers, left_same, seat_core}
+use Rattle.hypervisor.proofs.Seats.{has_own, has_table, on_board}
 use Rattle.hypervisor.proofs.hyp.Hyp.carry_out.Goals as goal
+
+pub seat_at-requires-clause-vm : goal.seat_at-requires-clause-vm
+seat_at-requires-clause-vm g c =
+    slice_get_within (config_data c.args.config.now).vms c.args.seat.vm c.requires.seat.vm c.requires.seat.place
+
+pub seat_at-requires-clause-own : goal.seat_at-requires-clause-own
+seat_at-requires-clause-own g c vm is =
+    let cfg = config_data c.args.config.now in
+    let powers = powers_of (cores_of (slice_get cfg.vms c.args.seat.vm)) c.args.self.now.powers in
+    start_lawful cfg c.args.seat.vm powers vm c.in-On.own c.in-On.start c.in-On.arg is
+    (subst (IsLawful cfg c.args.seat.vm powers) c.in-On.is c.requires.lawful)
 
 pub turn_on-requires-clause-core : goal.turn_on-requires-clause-core
 turn_on-requires-clause-core g c =
-    let cfg = config_data c.args.config.now in let vm = vm_data c.vm_at.result.now in
-    let powers = powers_of (cores_of (slice_get cfg.vms c.args.vm)) c.args.self.now.powers in
-    let own =
-    start_lawful cfg c.args.vm powers vm c.in-On.own c.in-On.start c.in-On.arg c.vm_at.ensures
-    (subst (IsLawful cfg c.args.vm powers) c.in-On.is c.requires.lawful) in
-    core_on_board cfg (g.B.Board.state c.args.board.now) (slice_index vm.cores c.in-On.own) c.requires.tidy.shape
-    (own_on_platform cfg c.args.vm c.in-On.own vm c.requires.well_formed c.vm_at.ensures own)
+    on_board (config_data c.args.config.now) c.args.self.now (g.B.Board.state c.args.board.now) c.requires.well_formed c.requires.tidy
+    c.seat_at.result c.seat_at.ensures.seat
+
+pub turn_on-requires-clause-vm : goal.turn_on-requires-clause-vm
+turn_on-requires-clause-vm g c =
+    has_table (config_data c.args.config.now) c.args.self.now (g.B.Board.state c.args.board.now) c.requires.well_formed c.requires.tidy
+    c.seat_at.result c.seat_at.ensures.seat
+
+pub turn_on-requires-clause-own : goal.turn_on-requires-clause-own
+turn_on-requires-clause-own g c =
+    has_own (config_data c.args.config.now) c.args.self.now (g.B.Board.state c.args.board.now) c.requires.well_formed c.requires.tidy
+    c.seat_at.result c.seat_at.ensures.seat
+
+pub vm_at-requires : goal.vm_at-requires
+vm_at-requires g c =
+    slice_get_within (config_data c.args.config.now).vms c.args.seat.vm c.requires.seat.vm c.requires.seat.place
+
+pub ring-requires-clause-memory : goal.ring-requires-clause-memory
+ring-requires-clause-memory g c =
+    let cfg = config_data c.args.config.now in
+    let lawful =
+    subst (IsLawful cfg c.args.seat.vm (powers_of (cores_of (slice_get cfg.vms c.args.seat.vm)) c.args.self.now.powers)) c.in-Ring.is
+    c.requires.lawful in
+    lawful.memory
+
+pub returns-in-Answer : goal.returns-in-Answer
+returns-in-Answer g c =
+    let cfg = config_data c.args.config.now in let old = c.args.self.now in let m = g.B.Board.state c.args.board.now in
+    let v = c.args.seat.vm in
+    subst
+    (λ o. IsLeft cfg (record { old = old; new = old; before = m; after = m })
+    (carried cfg v (cores_of (slice_get cfg.vms v)) c.args.seat.core o (guests_of cfg old m))) (sym c.in-Answer.is)
+    (left_same cfg old m c.requires.tidy)
+
+pub returns-in-Ring : goal.returns-in-Ring
+returns-in-Ring g c =
+    let cfg = config_data c.args.config.now in let old = c.args.self.now in let m = g.B.Board.state c.args.board.now in
+    let v = c.args.seat.vm in
+    subst
+    (λ o. IsLeft cfg (record { old = old; new = c.ring.new.self; before = m; after = g.B.Board.state c.ring.new.board })
+    (carried cfg v (cores_of (slice_get cfg.vms v)) c.args.seat.core o (guests_of cfg old m))) (sym c.in-Ring.is)
+    c.ring.ensures
+
+pub returns-in-Off : goal.returns-in-Off
+returns-in-Off g c =
+    let cfg = config_data c.args.config.now in let old = c.args.self.now in let m = g.B.Board.state c.args.board.now in
+    let v = c.args.seat.vm in
+    subst
+    (λ o. IsLeft cfg (record { old = old; new = c.set_power.new.self; before = m; after = m })
+    (carried cfg v (cores_of (slice_get cfg.vms v)) c.args.seat.core o (guests_of cfg old m))) (sym c.in-Off.is)
+    (left_powers cfg old c.set_power.new.self m (slice_set old.powers c.args.seat.core power.Off) c.requires.tidy c.set_power.ensures.powers
+    c.set_power.ensures.tables)
 
 pub returns-in-On : goal.returns-in-On
 returns-in-On g c =
-    let cfg = config_data c.args.config.now in let vm = vm_data c.vm_at.result.now in
-    let m = g.B.Board.state c.args.board.now in let old = c.args.self.now in
-    let powers = powers_of (cores_of (slice_get cfg.vms c.args.vm)) old.powers in
-    let own =
-    start_lawful cfg c.args.vm powers vm c.in-On.own c.in-On.start c.in-On.arg c.vm_at.ensures
-    (subst (IsLawful cfg c.args.vm powers) c.in-On.is c.requires.lawful) in
-    let target = slice_index vm.cores c.in-On.own in
-    let low = own_on_platform cfg c.args.vm c.in-On.own vm c.requires.well_formed c.vm_at.ensures own in
+    let cfg = config_data c.args.config.now in let old = c.args.self.now in let m = g.B.Board.state c.args.board.now in
+    let v = c.args.seat.vm in
     subst
-    (λ outcome. IsLeft old c.turn_on.new.self m (g.B.Board.state c.turn_on.new.board)
-    (carried cfg c.args.vm (cores_of (slice_get cfg.vms c.args.vm)) c.args.core outcome (guests_of old m))) (sym c.in-On.is)
+    (λ o. IsLeft cfg (record { old = old; new = c.turn_on.new.self; before = m; after = g.B.Board.state c.turn_on.new.board })
+    (carried cfg v (cores_of (slice_get cfg.vms v)) c.args.seat.core o (guests_of cfg old m))) (sym c.in-On.is)
     (subst
-    (λ o. IsLeft old c.turn_on.new.self m (g.B.Board.state c.turn_on.new.board)
-    (carried cfg c.args.vm (cores_of o) c.args.core (call.On c.in-On.own c.in-On.start c.in-On.arg) (guests_of old m))) (sym c.vm_at.ensures)
-    (record {
-      state = c.turn_on.ensures.state ∙ ap (with_core m target) (starts_alike cfg m target c.in-On.start c.in-On.arg c.requires.tidy.shape low);
-      powers = c.turn_on.ensures.powers;
-      tables = ap tables_of c.turn_on.ensures.tables;
-      counts = ap core_counts c.turn_on.ensures.tables;
-    }))
+    (λ n. IsLeft cfg (record { old = old; new = c.turn_on.new.self; before = m; after = g.B.Board.state c.turn_on.new.board })
+    (turned_on cfg n c.in-On.start c.in-On.arg (guests_of cfg old m)))
+    (sym (seat_core cfg c.seat_at.result c.seat_at.ensures.seat v c.in-On.own c.seat_at.ensures.vm c.seat_at.ensures.own))
+    (left_on cfg c.requires.well_formed c.args.config.now.fits old c.turn_on.new.self m (g.B.Board.state c.turn_on.new.board) c.requires.tidy
+    c.seat_at.result c.seat_at.ensures.seat c.in-On.start c.in-On.arg c.turn_on.ensures.state c.turn_on.ensures.powers
+    c.turn_on.ensures.tables))
 
 pub returns-in-SystemOff : goal.returns-in-SystemOff
 returns-in-SystemOff g c =
-    let cfg = config_data c.args.config.now in
-    let m = g.B.Board.state c.args.board.now in let old = c.args.self.now in
+    let cfg = config_data c.args.config.now in let old = c.args.self.now in let m = g.B.Board.state c.args.board.now in
+    let v = c.args.seat.vm in
     subst
-    (λ outcome. IsLeft old c.turn_all_off.new.self m m
-    (carried cfg c.args.vm (cores_of (slice_get cfg.vms c.args.vm)) c.args.core outcome (guests_of old m))) (sym c.in-SystemOff.is)
-    (subst
-    (λ o. IsLeft old c.turn_all_off.new.self m m (carried cfg c.args.vm (cores_of o) c.args.core call.SystemOff (guests_of old m)))
-    (sym c.vm_at-in-SystemOff.ensures)
-    (record {
-      state = refl;
-      powers = c.turn_all_off.ensures.powers;
-      tables = ap tables_of c.turn_all_off.ensures.tables;
-      counts = ap core_counts c.turn_all_off.ensures.tables;
-    }))
+    (λ o. IsLeft cfg (record { old = old; new = c.turn_all_off.new.self; before = m; after = m })
+    (carried cfg v (cores_of (slice_get cfg.vms v)) c.args.seat.core o (guests_of cfg old m))) (sym c.in-SystemOff.is)
+    (left_powers cfg old c.turn_all_off.new.self m (all_off (cores_of (slice_get cfg.vms v)) old.powers) c.requires.tidy
+    (c.turn_all_off.ensures.powers ∙ ap (λ o. all_off (cores_of o) old.powers) (sym c.vm_at.ensures)) c.turn_all_off.ensures.tables)
