@@ -1,38 +1,34 @@
 //! The machine on which the tests run.
-ghost use Rattle.std.specs.Prelude.{◌≡◌, ◌≤◌, false, IfOk, length};
+ghost use Rattle.std.specs.Prelude.{◌≡◌, ◌≤◌, false, length};
 ghost use Rattle.bao_types.specs.Shape.{shape_data};
 ghost use Rattle.board.specs.Machine.{IsFittable};
 ghost use Rattle.board.specs.Ports.{standard_ports};
 ghost use Rattle.board_tests.specs.Bench.{bench_shape, IsBare, IsReady};
 
-use arrayvec::ArrayVec;
+use crate::drive::{Row, first_unmet};
 use bao_types::{ByteRange, CorePlace, OutOfMemory, PortSpot, Region, Shape};
 use board::Board;
 use port_kinds::{ConsolePort, ScratchPort, TickerPort};
 use ports::Port;
 use sim_board::SimBoard;
 use std::alloc::{AllocError, Global};
+use vgic_table::IrqTable;
 
 /// Where guests lie and begin.
 const START: u64 = 0x10_0000;
 
-/// A board with a guest's bytes, at which all its cores begin. All cores may read, write and execute its memory, and reach its
-/// ports.
-pub fn bench_board(alloc: Global, image: &[u8]) -> Result<SimBoard, OutOfMemory>
+/// The first row that a guest with these bytes doesn't meet, by what it shows. It lies on a board with the ports of the standard
+/// list, at which all cores begin; they may read, write and execute its memory, and reach its ports.
+///
+/// # Errors
+///
+/// There is no memory for the ports, or for the board.
+pub fn unmet(
+    alloc: Global,
+    image: &[u8],
+    rows: &[Row],
+) -> Result<Result<Option<&'static str>, OutOfMemory>, AllocError>
     requires { length image.now ≤ 0x1_0000 }
-    ensures ready { IfOk result (λ board. IsReady (⟦<SimBoard as Board>⟧.state board)) }
-    ensures spent { IfOk result (λ board. (⟦<SimBoard as Board>⟧.state board).spent ≡ 0) }
-{
-    let mut board = new_board(alloc)?;
-    board.fit(alloc, &bench_shape())?;
-    prepare(&mut board, image);
-    Ok(board)
-}
-
-/// A board with the ports of the standard list, which isn't fitted.
-fn new_board(alloc: Global) -> Result<SimBoard, AllocError>
-    ensures unfitted { IfOk result (λ board. (⟦<SimBoard as Board>⟧.state board).fitted ≡ false) }
-    ensures ports { IfOk result (λ board. (⟦<SimBoard as Board>⟧.state board).ports ≡ standard_ports) }
 {
     let mut ports: Vec<Box<dyn Port>> = Vec::new(alloc);
     for _ in 0..8u8 {
@@ -44,7 +40,25 @@ fn new_board(alloc: Global) -> Result<SimBoard, AllocError>
     for _ in 0..4u8 {
         ports.push(Box::new(alloc, TickerPort::new())?)?;
     }
-    Ok(SimBoard::new(alloc, ports))
+    let mut board = SimBoard::new(alloc, ports);
+    Ok(unmet_on(alloc, &mut board, image, rows))
+}
+
+/// The same on a board that isn't fitted.
+fn unmet_on<B: Board>(
+    alloc: Global,
+    board: &mut B,
+    image: &[u8],
+    rows: &[Row],
+) -> Result<Option<&'static str>, OutOfMemory>
+    requires unfitted { (B.state board.old).fitted ≡ false }
+    requires ports { (B.state board.old).ports ≡ standard_ports }
+    requires image { length image.now ≤ 0x1_0000 }
+{
+    board.fit(alloc, &bench_shape())?;
+    prepare(board, image);
+    let mut table = IrqTable::new(2);
+    Ok(first_unmet(board, &mut table, rows))
 }
 
 /// Gives a bare board a guest, and each core its entries and its beginning.

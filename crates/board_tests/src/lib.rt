@@ -4,8 +4,8 @@
 //! The crate has no other code. It stands below the hypervisor, so that its tests can begin with ids that are enabled.
 #![tactic(auto)]
 
-pub use bench::bench_board;
-pub use drive::{Call, first_unmet};
+pub use bench::unmet;
+pub use drive::{Call, Listed, Row, Seen};
 
 mod bench;
 mod drive;

@@ -4,7 +4,7 @@
 use crate::drive::Call::{Ack, Run, Set, Shows, Step};
 use crate::drive::Seen::{Elr, Esr, Far, Pc, Pstate, Spsr};
 use crate::drive::{Call, FREE, PENDING, Row};
-use crate::trial::{image_of, unmet};
+use crate::trial::{first_unmet, image_of};
 use board::Exit;
 use board::Exit::Ran;
 use std::alloc::Global;
@@ -85,8 +85,8 @@ fn check_open(
         ("nor a fault address", 0, Shows(Far, 0)),
     ];
     let image = guest(alloc, open, happening)?;
-    let unmet = unmet(alloc, &image, rows.as_slice())?;
-    assert_eq!(rt; unmet, None, "{shows} from {from}");
+    let first = first_unmet(alloc, &image, rows.as_slice())?;
+    assert_eq!(rt; first, None, "{shows} from {from}");
     Ok(())
 }
 
@@ -114,8 +114,8 @@ fn check_masked(
         ("no line is raised", 0, Ack(None)),
     ];
     let image = guest(alloc, masked, happening)?;
-    let unmet = unmet(alloc, &image, rows.as_slice())?;
-    assert_eq!(rt; unmet, None, "{shows} from {from}, masked");
+    let first = first_unmet(alloc, &image, rows.as_slice())?;
+    assert_eq!(rt; first, None, "{shows} from {from}, masked");
     Ok(())
 }
 

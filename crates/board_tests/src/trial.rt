@@ -1,11 +1,10 @@
 //! A guest, and what is done while it runs.
 
-use crate::bench::bench_board;
-use crate::drive::{Row, first_unmet};
+use crate::bench::unmet;
+use crate::drive::Row;
 use std::alloc::Global;
 use std::process::Abort;
 use std::test::Fail;
-use vgic_table::IrqTable;
 
 /// `movz x0, #0xf8`, `msr icc_pmr_el1, x0`, `movz x0, #1` and `msr icc_igrpen1_el1, x0`: all priorities but the last pass, and
 /// Group 1 is on.
@@ -32,7 +31,7 @@ pub(crate) fn image_of(alloc: Global, words: &[u32], handler: &[u32]) -> Result<
 }
 
 /// The first row that a guest doesn't meet, by what it shows.
-pub(crate) fn unmet(
+pub(crate) fn first_unmet(
     alloc: Global,
     image: &[u8],
     rows: &[Row],
@@ -40,9 +39,7 @@ pub(crate) fn unmet(
     if image.len() > 0x1_0000 {
         return Ok(Some("too many words"));
     }
-    let mut board = bench_board(alloc, image)?;
-    let mut table = IrqTable::new(2);
-    Ok(first_unmet(&mut board, &mut table, rows))
+    Ok(unmet(alloc, image, rows)??)
 }
 
 /// Runs a guest of `OPEN` and these words, with a handler or none, over these rows.
@@ -54,7 +51,7 @@ pub(crate) fn check(
     rows: &[Row],
 ) -> Result<(), Fail> {
     let image = image_of(alloc, words, handler)?;
-    let unmet = unmet(alloc, &image, rows)?;
-    assert_eq!(rt; unmet, None);
+    let first = first_unmet(alloc, &image, rows)?;
+    assert_eq!(rt; first, None);
     Ok(())
 }
