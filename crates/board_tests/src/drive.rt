@@ -48,9 +48,9 @@ pub enum Call {
     /// The port, and the byte that it is given.
     Input(u8, u8),
     /// The core's list registers are these from now on.
-    Set([Listed; 4]),
+    Set(&'static [Listed; 4]),
     /// The core's list registers are these.
-    Holds([Listed; 4]),
+    Holds(&'static [Listed; 4]),
     /// The core's list registers go back to the table.
     Back,
     /// The core is turned on at an address: its list registers go back to the table.
@@ -102,11 +102,11 @@ fn is_met<B: Board>(board: &mut B, table: &mut IrqTable, core: u8, call: &Call) 
         Call::Run(steps) => run(board, core, steps.min(16)),
         Call::Step(count, exit) => step(board, core, count) == exit,
         Call::Turn(count, exit) => turn(board, table, core, count) == exit,
-        Call::Shows(ref register, value) => shown(board, core, register) == value,
+        Call::Shows(register, value) => shown(board, core, register) == value,
         Call::Ack(intid) => ack(board, core) == intid,
         Call::Input(port, byte) => input(board, port, byte),
-        Call::Set(ref lists) => set(board, core, lists),
-        Call::Holds(ref lists) => holds(board, core, lists),
+        Call::Set(lists) => set(board, core, lists),
+        Call::Holds(lists) => holds(board, core, lists),
         Call::Back => take_back(board, table, core),
         Call::Start(at) => take_back(board, table, core) && start(board, core, at),
         Call::On(on) => turn_on(table, on),
@@ -293,12 +293,12 @@ fn input<B: Board>(board: &mut B, port: u8, byte: u8) -> bool
 }
 
 /// A register of a core.
-fn shown<B: Board>(board: &B, core: u8, register: &Seen) -> u64
+fn shown<B: Board>(board: &B, core: u8, register: Seen) -> u64
     requires ready { IsReady (B.state board.now) }
     requires core { core < 3 }
 {
     let view = board.core_view(core);
-    match *register {
+    match register {
         Seen::X(n) if n < 31 => board.gpr(core, n),
         Seen::X(_) => 0,
         Seen::Pc => view.pc,

@@ -116,9 +116,9 @@ static FORWARDED: [Row; 13] = [
     ("the next step of the VM's second core",             1,   Turn(0, Ran)),
     ("takes both lines to the first core's ids",          0,   Has(40, 0x20, ENABLED + PENDING)),
     ("since these are the VM's",                          0,   Has(41, 0x10, ENABLED + PENDING)),
-    ("the second core's registers stay free",             1,   Holds([FREE, FREE, FREE, FREE])),
+    ("the second core's registers stay free",             1,   Holds(&[FREE, FREE, FREE, FREE])),
     ("the first core's next step",                        0,   Turn(0, Ran)),
-    ("lists them, the more urgent one first",             0,   Holds([(41, 0x10, PENDING), (40, 0x20, PENDING), FREE, FREE])),
+    ("lists them, the more urgent one first",             0,   Holds(&[(41, 0x10, PENDING), (40, 0x20, PENDING), FREE, FREE])),
 ];
 
 #[test]

@@ -109,14 +109,14 @@ const TO_XZR: [u32; 5] = [
 static READ_TO_XZR: [Row; 10] = [
     // shows                                              core call
     ("the guest opens its interface",                     0,   Run(4)),
-    ("two ids are pending",                               0,   Set([(40, 0x20, PENDING), (42, 0x20, PENDING), FREE, FREE])),
+    ("two ids are pending",                               0,   Set(&[(40, 0x20, PENDING), (42, 0x20, PENDING), FREE, FREE])),
     ("the id is read to XZR",                             0,   Step(0, Ran)),
-    ("it is active all the same",                         0,   Holds([(40, 0x20, ACTIVE), (42, 0x20, PENDING), FREE, FREE])),
+    ("it is active all the same",                         0,   Holds(&[(40, 0x20, ACTIVE), (42, 0x20, PENDING), FREE, FREE])),
     ("the running priority and the next id are read",     0,   Run(2)),
     ("its priority runs",                                 0,   Shows(X(7), 0x20)),
     ("the next comes only behind it",                     0,   Shows(X(9), 1023)),
     ("it is ended",                                       0,   Run(2)),
-    ("its register is free",                              0,   Holds([FREE, (42, 0x20, PENDING), FREE, FREE])),
+    ("its register is free",                              0,   Holds(&[FREE, (42, 0x20, PENDING), FREE, FREE])),
     ("at the guest's end",                                0,   Shows(Pc, 0x10_0024)),
 ];
 
@@ -142,14 +142,14 @@ const ENDS: [u32; 8] = [
 static UNLISTED: [Row; 12] = [
     // shows                                              core call
     ("the guest opens its interface",                     0,   Run(4)),
-    ("an id is pending",                                  0,   Set([(40, 0x20, PENDING), FREE, FREE, FREE])),
+    ("an id is pending",                                  0,   Set(&[(40, 0x20, PENDING), FREE, FREE, FREE])),
     ("it is taken",                                       0,   Run(2)),
     ("an id of no interrupt is ended",                    0,   Step(0, Ran)),
     ("what runs is read",                                 0,   Run(2)),
     ("it is what ran before",                             0,   Shows(X(8), 0x20)),
     ("an id that stands in no register is ended",         0,   Step(0, End { id: 41 })),
     ("the instruction is carried out",                    0,   Shows(Pc, 0x10_0028)),
-    ("no register changes",                               0,   Holds([(40, 0x20, ACTIVE), FREE, FREE, FREE])),
+    ("no register changes",                               0,   Holds(&[(40, 0x20, ACTIVE), FREE, FREE, FREE])),
     ("what runs is read",                                 0,   Step(0, Ran)),
     ("the running priority is dropped",                   0,   Shows(X(7), 0xff)),
     ("the id taken is the one that was pending",          0,   Shows(X(1), 40)),
@@ -169,15 +169,15 @@ static TURNED_ON: [Row; 15] = [
     ("it opens its interface",                            1,   Run(4)),
     ("a step takes the first",                            1,   Turn(0, Ran)),
     ("by its id",                                         1,   Shows(X(1), 5)),
-    ("both stand in registers",                           1,   Holds([(5, 0x20, ACTIVE), (6, 0x28, PENDING), FREE, FREE])),
+    ("both stand in registers",                           1,   Holds(&[(5, 0x20, ACTIVE), (6, 0x28, PENDING), FREE, FREE])),
     ("the core is turned on again",                       1,   Start(0x10_0000)),
-    ("its registers are free",                            1,   Holds([FREE, FREE, FREE, FREE])),
+    ("its registers are free",                            1,   Holds(&[FREE, FREE, FREE, FREE])),
     ("the first id is active in the table",               1,   Has(5, 0x20, ENABLED + ACTIVE)),
     ("the other is pending there",                        1,   Has(6, 0x28, READY)),
     ("the first core doesn't have it",                    0,   Has(6, 0, 0)),
     ("the core begins anew",                              1,   Shows(X(1), 0)),
     ("at its next step",                                  1,   Turn(0, Ran)),
-    ("the pending one is listed again",                   1,   Holds([(6, 0x28, PENDING), FREE, FREE, FREE])),
+    ("the pending one is listed again",                   1,   Holds(&[(6, 0x28, PENDING), FREE, FREE, FREE])),
 ];
 
 #[test]

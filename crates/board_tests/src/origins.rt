@@ -63,7 +63,7 @@ fn guest(alloc: Global, state: u32, happening: &Happening) -> Result<Vec<u8>, Fa
 }
 
 /// The interrupt that is pending once the guest has returned.
-const WAITING: Call = Set([(40, 0x20, PENDING), FREE, FREE, FREE]);
+const WAITING: Call = Set(&[(40, 0x20, PENDING), FREE, FREE, FREE]);
 
 fn check_open(
     rt: &impl Abort,

@@ -20,7 +20,7 @@ pub(crate) fn image_of(alloc: Global, words: &[u32], handler: &[u32]) -> Result<
         image.extend_from_slice(&word.to_le_bytes())?;
     }
     if !handler.is_empty() {
-        while image.len() < 0x280 {
+        for _ in image.len()..0x280 {
             image.push(0)?;
         }
     }
