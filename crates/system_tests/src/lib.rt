@@ -14,6 +14,8 @@ mod devices;
 #[cfg(test)]
 mod examples;
 #[cfg(test)]
+mod interrupts;
+#[cfg(test)]
 mod layouts;
 #[cfg(test)]
 mod programs;

@@ -156,13 +156,10 @@ fn loads_and_stores(rt: HostRuntime) -> Result<(), Fail> {
 }
 
 #[rattlefmt::skip]
-static NOT_BUILT: [(&str, &[u32], u32, u32); 6] = [
+static NOT_BUILT: [(&str, &[u32], u32, u32); 3] = [
     // shows                           words                                 steps event
-    ("the second word",                &[0xd280_00a0, 0xd538_4600],              2, 1),
-    ("mrs of icc_pmr_el1",             &[0xd538_4600],                           1, 0),
+    ("the second word",                &[0xd280_00a0, 0xd518_cba0],              2, 1),
     ("msr of icc_sgi1r_el1",           &[0xd518_cba0],                           1, 0),
-    ("msr of cntv_ctl_el0",            &[0xd51b_e320],                           1, 0),
-    ("mrs of cntvct_el0",              &[0xd53b_e040],                           1, 0),
     ("a load of the distributor",      &[0xd2b5_e001, 0xb940_0420],              2, 1),
 ];
 

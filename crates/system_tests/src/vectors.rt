@@ -79,7 +79,7 @@ static CAUSES: [Cause; 7] = [
 
 /// What EL1 alone may execute; undefined at EL0.
 #[rattlefmt::skip]
-static PRIVILEGED: [Cause; 7] = [
+static PRIVILEGED: [Cause; 9] = [
     // shows                    flags  high SPSR    address      word         ELR        ESR          FAR
     ("hvc",                     LEGAL, 0x6000_0000, TO_THE_WORD, 0xD400_0022, [0x10_0020, 0x0200_0000, 0]),
     ("smc",                     LEGAL, 0x6000_0000, TO_THE_WORD, 0xD400_0043, [0x10_0020, 0x0200_0000, 0]),
@@ -88,6 +88,8 @@ static PRIVILEGED: [Cause; 7] = [
     ("ic iallu",                LEGAL, 0x6000_0000, TO_THE_WORD, 0xD508_751F, [0x10_0020, 0x0200_0000, 0]),
     ("mrs x0, midr_el1",        LEGAL, 0x6000_0000, TO_THE_WORD, 0xD538_0000, [0x10_0020, 0x0200_0000, 0]),
     ("msr sctlr_el1, x0",       LEGAL, 0x6000_0000, TO_THE_WORD, 0xD518_1000, [0x10_0020, 0x0200_0000, 0]),
+    ("mrs x0, cntv_ctl_el0",    LEGAL, 0x6000_0000, TO_THE_WORD, 0xD53B_E320, [0x10_0020, 0x0200_0000, 0]),
+    ("mrs x0, icc_iar1_el1",    LEGAL, 0x6000_0000, TO_THE_WORD, 0xD538_CC00, [0x10_0020, 0x0200_0000, 0]),
 ];
 
 /// Whether a report has a register's line; one that is zero has none.
