@@ -1,13 +1,13 @@
 -- A step that is carried out changes its core's list registers as it does all interrupts of the VM, but for an id that ends in
 -- none of the registers: that end is left to the hypervisor.
-use Rattle.std.proofs.Common.{◌≡◌, ℕ, ◌<◌, ◌≤◌, Bool, true, false, List, [], length, map, set, refl, sym, ap, subst, ◌∙◌, arith}
-use Rattle.std.specs.Prelude.{◌&&◌, not, is_some, min, nat_lt, if◌then◌else◌, Option, None, Some, find, slice_get, slice_index_or, slice_set}
+use Rattle.std.proofs.Common.{◌≡◌, ℕ, ◌<◌, ◌≤◌, Bool, true, false, List, [], length, map, refl, sym, ap, subst, ◌∙◌, arith}
+use Rattle.std.specs.Prelude.{◌&&◌, not, is_some, min, nat_lt, if◌then◌else◌, Option, None, Some, find, slice_index_or, slice_set}
 use Rattle.std.proofs.lemmas.Bool.{false≢true}
 use Rattle.std.proofs.lemmas.Bool.Decides.{nat_tests}
 use Rattle.std.proofs.lemmas.List.{set-get_or}
 use Rattle.bao_types.specs.IfaceRegs.{IfaceData}
 use Rattle.bao_types.specs.ListReg.{ListRegData}
-use Rattle.bao_config.specs.Data.{ConfigData, VmData}
+use Rattle.bao_config.specs.Data.{ConfigData}
 use Rattle.bao_config.specs.Fits.{ConfigFits}
 use Rattle.bao_wellformed.specs.WellFormed.{IsWellFormed}
 use Rattle.board.specs.Attempt.{Effect, Outcome, Ran, Acknowledged, Ended, Leave}
@@ -27,15 +27,14 @@ use Rattle.vgic_table.specs.Shape.{BestIsListed}
 use Rattle.vgic_table.proofs.CoresLemmas.{best-others, core-acknowledges, core-ends, core-last, others, own-tidy, shaped-others, tidy-others}
 use Rattle.vgic_table.proofs.FrameLemmas.{frame-none}
 use Rattle.vgic_table.proofs.JoinedLemmas.{best-joined}
-use Rattle.vm_model.specs.Cores.{place_of}
-use Rattle.vm_model.specs.Guests.{Tables, tables_of}
+use Rattle.vm_model.specs.Guests.{tables_of}
 use Rattle.vm_model.specs.Interrupts.{best_of, table_after, table_at, virtual_number, with_table}
 use Rattle.vm_model.specs.Project.{joined_tables}
 use Rattle.hypervisor.specs.Change.{IsListed}
 use Rattle.hypervisor.specs.Hyp.{HypData}
 use Rattle.hypervisor.specs.Seat.{IsSeatOf}
 use Rattle.hypervisor.specs.declared.seat.Seat.{Seat}
-use Rattle.hypervisor.specs.Tidy.{AreHeld, Tidy}
+use Rattle.hypervisor.specs.Tidy.{Tidy}
 use Rattle.hypervisor.proofs.Held.{here, is_core, own_is}
 use Rattle.hypervisor.proofs.Moves.{Hold, moved, unchanged}
 use Rattle.hypervisor.proofs.Raised.{lines_accessed-ppis, lines_accessed-quieted}

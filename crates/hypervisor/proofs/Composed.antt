@@ -1,8 +1,6 @@
 -- A step of a core that runs, and what the hypervisor does about it, are a step of the model.
-use Rattle.std.proofs.Common.{◌≡◌, ℕ, ◌+◌, ◌<◌, ◌≤◌, Bool, true, false, List, [], ◌∷◌, length, map, refl, sym, ap, subst, ◌∙◌, arith}
-use Rattle.std.specs.Prelude.{◌==◌, ◌&&◌, ◌||◌, not, nat_lt, IsTrue, if◌then◌else◌, Option, None, Some, slice_index_or, slice_set}
-use Rattle.std.proofs.lemmas.Bool.{false≢true}
-use Rattle.std.proofs.lemmas.Bool.Decides.{nat_tests}
+use Rattle.std.proofs.Common.{◌≡◌, ℕ, Bool, true, false, List, map, refl, sym, ap, subst, ◌∙◌}
+use Rattle.std.specs.Prelude.{◌==◌, ◌||◌, IsTrue, if◌then◌else◌, Option, Some, slice_index_or, slice_set}
 use Rattle.bao_types.specs.Shape.{ShapeData}
 use Rattle.bao_config.specs.Data.{ConfigData}
 use Rattle.bao_config.specs.Fits.{ConfigFits}
@@ -16,13 +14,12 @@ use Rattle.board.specs.Stage.{by_regions}
 use Rattle.board.specs.declared.board.Exit.{Exit}
 use Rattle.board.specs.declared.board.Exit.TheVariants as exit
 use Rattle.board.proofs.Reached.{AllTouched, touched_by_second}
-use Rattle.gic_core.specs.declared.port_line.PortLine.{PortLine}
 use Rattle.gic_core.specs.PortLine.{quiet_line}
 use Rattle.hypercalls.specs.declared.power.Power.{Power}
-use Rattle.vgic_iface.specs.Interface.{best_listed, is_unlisted}
+use Rattle.vgic_iface.specs.Interface.{is_unlisted}
 use Rattle.vgic_table.specs.Interrupts.{Interrupts}
 use Rattle.vgic_table.specs.Changes.{made_inactive}
-use Rattle.vm_model.specs.Cores.{is_place, place_of}
+use Rattle.vm_model.specs.Cores.{place_of}
 use Rattle.vm_model.specs.Duty.{done, duty_of, is_not_built}
 use Rattle.vm_model.specs.Flat.{Flat, flat_duty, flat_effect, flat_guests, flat_left, flat_moment, flat_stepped, platform_places}
 use Rattle.vm_model.specs.Guests.{Guests, Tables, tables_of}
@@ -32,7 +29,7 @@ use Rattle.hypervisor.specs.Change.{Change, IsListed}
 use Rattle.hypervisor.specs.Hyp.{HypData, stands_for}
 use Rattle.hypervisor.specs.Seat.{IsSeatOf}
 use Rattle.hypervisor.specs.declared.seat.Seat.{Seat}
-use Rattle.hypervisor.specs.Taken.{IsLeft, IsSame, IsSettled, ended_guests, guests_of, is_exit_unbuilt, with_registers}
+use Rattle.hypervisor.specs.Taken.{IsLeft, IsSame, IsSettled, ended_guests, guests_of, is_exit_unbuilt}
 use Rattle.hypervisor.specs.Tidy.{Tidy}
 use Rattle.hypervisor.proofs.Carried.{carried_settled, carried_tables, carried_tidy, table_carried, table_settled}
 use Rattle.hypervisor.proofs.Left.{left_same, left_tidy}

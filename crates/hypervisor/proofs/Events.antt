@@ -1,35 +1,33 @@
 -- An event on the machine is a step of the model; and what of it is left to the board alone.
 use Rattle.std.proofs.Common.{◌≡◌, ℕ, ◌+◌, ◌<◌, ◌≤◌, Bool, true, false, List, [], ◌∷◌, find, length, map, refl, sym, ap, subst, ◌∙◌, arith}
-use Rattle.std.specs.Prelude.{◌==◌, ◌&&◌, ◌||◌, not, nat_lt, IsTrue, if◌then◌else◌, Option, None, Some, is_some, slice_get, slice_index_or, slice_set, unwrap_or}
+use Rattle.std.specs.Prelude.{◌==◌, ◌&&◌, ◌||◌, not, IsTrue, if◌then◌else◌, Option, None, Some, is_some, slice_get, slice_index_or, unwrap_or}
 use Rattle.std.specs.List.{list_any}
 use Rattle.std.proofs.lemmas.Bool.{false≢true}
 use Rattle.std.proofs.lemmas.List.{get_or-set_same}
 use Rattle.bao_types.specs.IfaceRegs.{IfaceData}
 use Rattle.bao_types.specs.ListReg.{ListRegData, is_free}
 use Rattle.bao_types.specs.Shape.{ShapeData}
-use Rattle.bao_config.specs.Data.{ConfigData, VmData}
+use Rattle.bao_config.specs.Data.{ConfigData}
 use Rattle.bao_config.specs.Fits.{ConfigFits}
 use Rattle.bao_wellformed.specs.Map.{has_core, owner}
 use Rattle.bao_wellformed.specs.WellFormed.{IsWellFormed}
 use Rattle.board.specs.Attempt.{Effect, Outcome, Ran, Acknowledged, Ended, Leave}
 use Rattle.board.specs.Interrupts.{exit_of, is_raised, lists_after, lines_given}
-use Rattle.board.specs.Machine.{Machine, carried_out, exit_after, lists_at, machine_effect, port_given, proceeded, step_exit, stepped, ticked}
-use Rattle.board.specs.declared.board.Exit.{Exit}
+use Rattle.board.specs.Machine.{Machine, carried_out, exit_after, lists_at, machine_effect, port_given, stepped, ticked}
 use Rattle.board.specs.declared.board.Exit.TheVariants as exit
 use Rattle.gic_core.specs.PortLine.{quiet_line}
-use Rattle.ports.specs.Registers.{line_of_input}
-use Rattle.vgic_iface.specs.Interface.{best_listed, holds, is_signalled, lists_acknowledged, made_active, with_holder}
+use Rattle.vgic_iface.specs.Interface.{best_listed, holds, is_signalled, made_active, with_holder}
 use Rattle.vgic_iface.specs.Rank.{id_of, no_rank}
 use Rattle.vgic_table.specs.Registers.{Tidy as FitsTable}
 use Rattle.vgic_table.proofs.CoresLemmas.{own-tidy}
 use Rattle.vgic_table.proofs.LawLemmas.{holder}
 use Rattle.vm_model.specs.Cores.{place_of, virtual_core}
-use Rattle.vm_model.specs.Flat.{Flat, Step, Input, flat_duty, flat_effect, flat_given, flat_guests, flat_ready, flat_step, flat_stepped, is_entered, is_event_unbuilt, is_on, runs}
+use Rattle.vm_model.specs.Flat.{Flat, Step, flat_duty, flat_effect, flat_given, flat_guests, flat_ready, flat_step, flat_stepped, is_entered, is_event_unbuilt, is_on, runs}
 use Rattle.vm_model.specs.Duty.{done, is_not_built}
 use Rattle.vm_model.specs.Interrupts.{best_of}
 use Rattle.vm_model.specs.Project.{is_port_raised}
 use Rattle.vm_model.proofs.Lists.{placed_got}
-use Rattle.hypervisor.specs.Change.{Change, IsBestKept, IsLeftToBoard, IsListed, IsOfBoard, IsQuiet, goes_on}
+use Rattle.hypervisor.specs.Change.{Change, IsBestKept, IsLeftToBoard, IsOfBoard, IsQuiet, goes_on}
 use Rattle.hypervisor.specs.Event.{IsPlaced, flat_event, is_assigned}
 use Rattle.hypervisor.specs.declared.event.Event.{Event}
 use Rattle.hypervisor.specs.declared.event.Event.TheVariants as event
@@ -64,9 +62,11 @@ seated cfg core some = by_place (place_of cfg core) refl
     by_place : (place : Option ℕ) → place_of cfg core ≡ place → (seat : Seat) × (seat.core ≡ core) × IsSeatOf cfg core seat
     by_place None e = absurd (false≢true (sym (no_owner cfg core e) ∙ some))
     by_place (Some v) e =
-        let got = placed_got (has_core core) cfg.vms v e in
-        (record { vm = v; own = unwrap_or (virtual_core got.0 core) 0; core = core }, refl,
-        seat_there cfg core v e got.0 (unwrap_or (virtual_core got.0 core) 0) got.1 refl)
+        let got = placed_got (has_core core) cfg.vms v e in (
+          record { vm = v; own = unwrap_or (virtual_core got.0 core) 0; core = core },
+          refl,
+          seat_there cfg core v e got.0 (unwrap_or (virtual_core got.0 core) 0) got.1 refl,
+        )
 
 -- an interrupt that stands in a register does so still once it is active
 later : (here rest : Bool) → rest ≡ true → (here || rest) ≡ true

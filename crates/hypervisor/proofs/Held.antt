@@ -1,5 +1,5 @@
 -- One core's list registers and its VM's table change: what tables and registers hold together, of all VMs.
-use Rattle.std.proofs.Common.{◌≡◌, ◌≢◌, ℕ, zero, suc, ◌+◌, ◌<◌, ◌≤◌, Bool, true, false, List, [], ◌∷◌, All, get_or, length, map, set, refl, sym, ap, subst, ◌∙◌, arith}
+use Rattle.std.proofs.Common.{◌≡◌, ◌≢◌, ℕ, zero, suc, ◌<◌, Bool, true, false, List, [], ◌∷◌, All, get_or, length, map, refl, sym, ap, subst, ◌∙◌, arith}
 use Rattle.std.specs.Prelude.{◌==◌, ◌||◌, IsTrue, if◌then◌else◌, None, Some, slice_get, slice_index_or, slice_set}
 use Rattle.std.specs.List.{list_any}
 use Rattle.std.proofs.lemmas.Bool.{eq-eqb}
@@ -10,7 +10,6 @@ use Rattle.std.proofs.lemmas.Option.{slice_get_within}
 use Rattle.bao_types.specs.ListReg.{ListRegData}
 use Rattle.bao_config.specs.Data.{ConfigData, VmData}
 use Rattle.bao_config.specs.Fits.{ConfigFits, VmFits}
-use Rattle.bao_wellformed.specs.Map.{has_core}
 use Rattle.bao_wellformed.specs.WellFormed.{IsWellFormed}
 use Rattle.bao_wellformed.proofs.Once.{cores_apart, cores_once}
 use Rattle.board.specs.Machine.{lists_at}
@@ -19,7 +18,7 @@ use Rattle.vgic_table.specs.Shape.{IsShaped}
 use Rattle.vgic_table.specs.Cores.{AreTidy, IsCoreOf, joined_cores}
 use Rattle.vgic_table.specs.CoresLaws.{StandFor}
 use Rattle.vm_model.specs.Duty.{cores_of}
-use Rattle.vm_model.specs.Guests.{Tables, tables_of}
+use Rattle.vm_model.specs.Guests.{tables_of}
 use Rattle.vm_model.specs.Interrupts.{with_table}
 use Rattle.vm_model.specs.Project.{joined_tables, lists_of}
 use Rattle.hypervisor.specs.Tidy.{AreHeld, core_counts}

@@ -1,6 +1,6 @@
 -- Where a physical core stands.
 use Rattle.std.proofs.Common.{◌≡◌, ℕ, zero, suc, ◌+◌, ◌<◌, Bool, true, false, List, [], ◌∷◌, get_or, length, map, refl, sym, ap, subst, ◌∙◌, arith}
-use Rattle.std.specs.Prelude.{◌==◌, ◌||◌, nat_lt, IsTrue, if◌then◌else◌, Option, None, Some, is_some, slice_get, slice_index, unwrap_or}
+use Rattle.std.specs.Prelude.{◌==◌, ◌||◌, nat_lt, IsTrue, if◌then◌else◌, None, Some, is_some, slice_get, slice_index, unwrap_or}
 use Rattle.std.specs.List.{enumerate_from, find, list_any, position_from}
 use Rattle.std.proofs.lemmas.Bool.{eq-eqb}
 use Rattle.std.proofs.lemmas.Bool.Decides.{nat_tests}
@@ -18,7 +18,6 @@ use Rattle.hypervisor.specs.Tidy.{Tidy}
 use Rattle.hypervisor.proofs.Calls.{counted, own_on_platform, table_there}
 use Rattle.bao_wellformed.specs.Map.{has_core, owner}
 use Rattle.vm_model.specs.Cores.{affinity_of, is_place, place_of, virtual_core}
-use Rattle.vm_model.specs.Interrupts.{virtual_number}
 use Rattle.vm_model.proofs.Lists.{first_by_place, placed_got}
 use Rattle.hypervisor.specs.Seat.{IsSeat, IsSeatOf, holder_of}
 use Rattle.hypervisor.specs.declared.seat.Seat.{Seat}

@@ -1,6 +1,6 @@
 -- What follows how a step ended: a call is answered and carried out, a core is parked, or an interrupt ends.
-use Rattle.std.proofs.Common.{◌≡◌, ℕ, ◌<◌, Bool, true, false, List, refl, sym, ap, subst, ◌∙◌}
-use Rattle.std.specs.Prelude.{◌&&◌, not, if◌then◌else◌, Option, None, Some, IfSome, is_some, slice_get, slice_set}
+use Rattle.std.proofs.Common.{◌≡◌, ℕ, Bool, true, false, List, refl, sym, ap, subst, ◌∙◌}
+use Rattle.std.specs.Prelude.{◌&&◌, not, if◌then◌else◌, Option, Some, is_some, slice_get, slice_set}
 use Rattle.bao_types.specs.ListReg.{ListRegData}
 use Rattle.bao_config.specs.Data.{ConfigData}
 use Rattle.bao_config.specs.Fits.{ConfigFits}
@@ -8,14 +8,13 @@ use Rattle.bao_wellformed.specs.Map.{owner}
 use Rattle.bao_wellformed.specs.WellFormed.{IsWellFormed}
 use Rattle.board.specs.Attempt.{Outcome, Ran, Acknowledged, Ended, Leave}
 use Rattle.board.specs.Interrupts.{exit_of, is_raised}
-use Rattle.board.specs.Machine.{Machine, carried_out, core_at, exit_after, lists_at, machine_effect, with_core}
+use Rattle.board.specs.Machine.{Machine, carried_out, core_at, lists_at, machine_effect, with_core}
 use Rattle.board.specs.declared.board.Exit.{Exit}
 use Rattle.board.specs.declared.board.Exit.TheVariants as exit
 use Rattle.hypercalls.specs.Calls.{answer_of}
 use Rattle.hypercalls.specs.declared.outcome.Outcome as calls
 use Rattle.hypercalls.specs.declared.power.Power.TheVariants.{Parked}
 use Rattle.vgic_iface.specs.Interface.{is_unlisted}
-use Rattle.vgic_iface.specs.Rank.{id_end}
 use Rattle.vm_model.specs.Cores.{place_of}
 use Rattle.vm_model.specs.Duty.{Duty, Park, NotBuilt, answered, call_duty, call_outcome, carried, cores_of, done, duty_of, is_call, is_not_built, is_smc}
 use Rattle.vm_model.specs.Flat.{is_on, runs}

@@ -3,7 +3,7 @@ use Rattle.std.specs.Prelude.{◌≡◌, ℕ, ◌<◌, not, Bool, true, false, L
 use Rattle.bao_types.specs.ListReg.{ListRegData}
 use Rattle.a64_state.specs.Core.{CoreData}
 use Rattle.bao_config.specs.Data.{ConfigData}
-use Rattle.board.specs.Attempt.{Outcome, Ran, Leave}
+use Rattle.board.specs.Attempt.{Leave}
 use Rattle.board.specs.declared.board.Exit.{Exit}
 use Rattle.board.specs.declared.board.Exit.TheVariants as exit
 use Rattle.board.specs.Interrupts.{is_raised}

@@ -1,7 +1,5 @@
-use Rattle.std.proofs.Common.{length, ap, sym, ◌∙◌}
-use Rattle.std.specs.Prelude.{true, false}
+use Rattle.std.specs.Prelude.{false}
 use Rattle.bao_config.specs.Config.{config_data}
-use Rattle.board.specs.Machine.{Machine}
 use Rattle.hypervisor.proofs.Seats.{has_own, has_table, on_board}
 use Rattle.hypervisor.proofs.Moves.{left_by_change}
 use Rattle.hypervisor.proofs.hyp.Hyp.end.Goals as goal

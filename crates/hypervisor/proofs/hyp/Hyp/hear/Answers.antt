@@ -1,7 +1,6 @@
-use Rattle.std.proofs.Common.{◌≡◌, ℕ, ◌<◌, ◌≤◌, length, ap, sym, subst, ◌∙◌, arith}
-use Rattle.std.specs.Prelude.{true, Some, IfSome, slice_get}
+use Rattle.std.proofs.Common.{sym, subst, ◌∙◌}
+use Rattle.std.specs.Prelude.{true, Some, IfSome}
 use Rattle.bao_config.specs.Config.{config_data}
-use Rattle.bao_config.specs.Data.{VmData}
 use Rattle.bao_config.specs.Fits.{VmFits}
 use Rattle.bao_wellformed.proofs.Fits.{got_fits}
 use Rattle.bao_wellformed.proofs.Windowed.{windows_sound}

@@ -1,4 +1,4 @@
-use Rattle.std.proofs.Common.{◌≡◌, sym, subst, ap, ◌∙◌, rules, refl}
+use Rattle.std.proofs.Common.{◌≡◌, sym, subst, ◌∙◌, rules, refl}
 use Rattle.std.specs.Prelude.{true}
 use Rattle.bao_config.specs.Config.{config_data}
 use Rattle.vm_model.specs.Flat.{runs}
@@ -45,8 +45,8 @@ returns g c =
     let here = c.in-Some.ensures.seat.core in
     record {
       after = subst (λ n. IsStepped cfg (record { old = old; new = new; before = m; after = after }) n c.args.count c.settle.result) here
-    (runs_on cfg old mid new m between after c.in-Some.seat.core c.args.count c.enter-exit.result c.settle.result
-    (subst (λ n. runs cfg (stands_for cfg old m) n ≡ true) (sym here)
-    (owned_on cfg old m c.args.core (sym c.in-Some.ensures.there) (sym c.is_on.ensures ∙ c.if-not-is_on.false)))
-    c.enter-exit.ensures c.settle.ensures.settled c.settle.ensures.built);
+          (runs_on cfg old mid new m between after c.in-Some.seat.core c.args.count c.enter-exit.result c.settle.result
+          (subst (λ n. runs cfg (stands_for cfg old m) n ≡ true) (sym here)
+          (owned_on cfg old m c.args.core (sym c.in-Some.ensures.there) (sym c.is_on.ensures ∙ c.if-not-is_on.false)))
+          c.enter-exit.ensures c.settle.ensures.settled c.settle.ensures.built);
     }

@@ -1,7 +1,6 @@
-use Rattle.std.proofs.Common.{refl, sym, subst}
+use Rattle.std.proofs.Common.{subst}
 use Rattle.bao_config.specs.Config.{config_data}
 use Rattle.hypervisor.specs.Event.{IsOnBoard}
-use Rattle.hypervisor.specs.Taken.{IsAfter}
 use Rattle.hypervisor.proofs.Models.{placed_on_board}
 use Rattle.hypervisor.proofs.hyp.Hyp.take.Goals as goal
 
