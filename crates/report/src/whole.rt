@@ -39,7 +39,7 @@ fn write_sections<K: Sink, B: Board>(
     requires fitted { (B.state board.now).fitted ≡ true }
     requires cores { length (B.state board.now).shape.cores ≡ length (checked_data checked.now).platform.cores }
     ensures taken { let cfg = checked_data checked.now in
-        Takes (K.taken sink.old) (K.taken sink.new) (sections cfg (stands_for (checked_data checked.now) hyp.now (B.state board.now)) cfg.vms) result }
+        Takes (K.taken sink.old) (K.taken sink.new) (sections cfg (stands_for cfg hyp.now (B.state board.now)) cfg.vms) result }
     ensures cause { HasCause (K.faults sink.old) (K.faults sink.new) result }
 {
     for vm in checked.config().vms.as_slice() {

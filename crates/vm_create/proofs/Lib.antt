@@ -6,5 +6,6 @@ pub mod EntryBits
 pub mod Safe
 pub mod Loaded
 pub mod Filled
+pub mod Free
 pub mod Started
 pub mod Tidied

@@ -92,6 +92,7 @@ fn start_cores<B: Board>(board: &mut B, checked: &Checked)
     requires fitted { (B.state board.old).fitted ≡ true }
     requires shape { (B.state board.old).shape ≡ shape_of (checked_data checked.now) (B.state board.old).shape.events }
     requires reset { (B.state board.old).cores ≡ (fitted_with (B.state board.old).shape (B.state board.old)).cores }
+    requires free { (B.state board.old).lists ≡ (fitted_with (B.state board.old).shape (B.state board.old)).lists }
     ensures { B.state board.new ≡ record (B.state board.old) { cores = boot_cores (checked_data checked.now) } }
 {
     let config = checked.config();

@@ -1,6 +1,5 @@
 use Rattle.std.proofs.Common.{◌≡◌, drop}
 use Rattle.outside.proofs.Puts.{Reached}
-use Rattle.hypervisor.specs.Hyp.{stands_for}
 use Rattle.report.specs.Section.{cores_text}
 use Rattle.report.proofs.section.write_cores.Given as goal
 

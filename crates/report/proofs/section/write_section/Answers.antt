@@ -7,7 +7,6 @@ use Rattle.bao_wellformed.specs.ByteRules.{kind_in}
 use Rattle.bao_wellformed.specs.Map.{map_of}
 use Rattle.outside.specs.Sink.{grown, Takes, TakesPart}
 use Rattle.outside.proofs.Puts.{part_first, part_second}
-use Rattle.hypervisor.specs.Hyp.{stands_for}
 use Rattle.board.specs.Ports.{outputs}
 use Rattle.report.specs.Lines.{vm_line, end_line}
 use Rattle.report.specs.Section.{vm_text, cores_text, consoles_text, memory_text, all_groups}

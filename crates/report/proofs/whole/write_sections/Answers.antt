@@ -43,25 +43,25 @@ write_section-requires-clause-space g c =
 
 pub returns-in_err-write_section-clause-taken : goal.returns-in_err-write_section-clause-taken
 returns-in_err-write_section-clause-taken g c =
-    let cfg = checked_data c.args.checked.now in let f = stands_for cfg c.args.hyp.now (g.B.Board.state c.args.board.now) in
+    let cfg = checked_data c.args.checked.now in let m = g.B.Board.state c.args.board.now in let f = stands_for cfg c.args.hyp.now m in
     let vms = c.as_slice-vm-items.result.now in let i = c.loop-vm.vm-index in let vm = c.vm-item.result in
     let failed : IsErr c.from_residual.result = search rules in
     MatchResult-from_err c.from_residual.result _ _ failed
     (λ _. stops_within _ _ _ _ c.loop-vm.invariant.text (g.K.Sink.taken c.write_section.new.sink) _ _
     (sections_next cfg f vms i vm c.loop-vm-test.true c.vm-item.is
-    ∙ ap (λ (cfg' : ConfigData). vm_text cfg' f (vm_data vm) ++ sections cfg f (map vm_data (drop (i + 1) vms)))
+    ∙ ap (λ (cfg' : ConfigData). vm_text cfg' (stands_for cfg' c.args.hyp.now m) (vm_data vm) ++ sections cfg f (map vm_data (drop (i + 1) vms)))
     (sym c.config-in-loop-vm.ensures))
     c.in_err-write_section.ensures.taken)
 
 pub loop-vm-preserved : goal.loop-vm-preserved
 loop-vm-preserved g c =
-    let cfg = checked_data c.args.checked.now in let f = stands_for cfg c.args.hyp.now (g.B.Board.state c.args.board.now) in
+    let cfg = checked_data c.args.checked.now in let m = g.B.Board.state c.args.board.now in let f = stands_for cfg c.args.hyp.now m in
     let vms = c.as_slice-vm-items.result.now in let i = c.loop-vm.vm-index in let vm = c.vm-item.result in
     record {
       text =
           goes_past _ _ _ _ c.loop-vm.invariant.text (g.K.Sink.taken c.write_section.new.sink) _ _
           (sections_next cfg f vms i vm c.loop-vm-test.true c.vm-item.is
-          ∙ ap (λ (cfg' : ConfigData). vm_text cfg' f (vm_data vm) ++ sections cfg f (map vm_data (drop (i + 1) vms)))
+          ∙ ap (λ (cfg' : ConfigData). vm_text cfg' (stands_for cfg' c.args.hyp.now m) (vm_data vm) ++ sections cfg f (map vm_data (drop (i + 1) vms)))
           (sym c.config-in-loop-vm.ensures))
           c.in_ok-write_section.ensures.taken;
       faults = search rules;
@@ -69,6 +69,7 @@ loop-vm-preserved g c =
 
 pub returns-clause-taken : goal.returns-clause-taken
 returns-clause-taken g c =
+    let cfg = checked_data c.args.checked.now in
     ends_whole _ _ _ _ c.loop-vm.invariant.text
-    (sections_none (checked_data c.args.checked.now) (stands_for cfg c.args.hyp.now (g.B.Board.state c.args.board.now))
+    (sections_none cfg (stands_for cfg c.args.hyp.now (g.B.Board.state c.args.board.now))
     c.as_slice-vm-items.result.now c.loop-vm.vm-index (omega (arith, c.loop-vm-test.false)))

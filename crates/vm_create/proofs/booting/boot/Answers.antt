@@ -18,7 +18,7 @@ returns-clause-state g c =
     c.start_cores.ensures
     ∙ ap (λ (m : Machine). record m { cores = boot_cores cfg })
     (c.set_entries.ensures ∙ ap (λ (m : Machine). record m { entries = entries }) c.load_images.ensures) in
-    ap (stands_for c.new.result) board ∙ ap (λ (hyp : HypData). stands_for hyp (booted cfg (packings_of plans) images old)) c.new.ensures
+    ap (stands_for cfg c.new.result) board ∙ ap (λ (hyp : HypData). stands_for cfg hyp (booted cfg (packings_of plans) images old)) c.new.ensures
     ∙ stands_booted cfg images plans old c.requires.fresh
 
 pub returns-clause-tidy : goal.returns-clause-tidy

@@ -1,5 +1,6 @@
 use Rattle.std.proofs.Common.{◌≡◌, ◌<◌, ◌+◌, length, map, set, sym, ap, ◌∙◌, arith}
 use Rattle.std.proofs.lemmas.List.{length-map}
+use Rattle.bao_types.specs.ListReg.{free_registers}
 use Rattle.bao_config.specs.Data.{ConfigData}
 use Rattle.bao_wellformed.specs.Checked.{checked_data}
 use Rattle.bao_wellformed.specs.Map.{owner}
@@ -9,6 +10,7 @@ use Rattle.vm_model.specs.Boot.{boot_core, boot_cores}
 use Rattle.vm_create.specs.Boot.{start_of}
 use Rattle.vm_create.proofs.Filled.{length_places}
 use Rattle.vm_create.proofs.Mixed.{mixed, mixed_all}
+use Rattle.vm_create.proofs.Free.{free_set}
 use Rattle.vm_create.proofs.Started.{length_cores, starts, waits, with_cores}
 use Rattle.vm_create.proofs.booting.start_cores.Goals as goal
 use Rattle.vm_create.proofs.booting.start_cores.Goals.{in-Some, in_default}
@@ -34,11 +36,17 @@ loop-core-preserved g c =
     omega (arith, ap (λ (cfg : ConfigData). length cfg.platform.cores) c.config-config.ensures, c.len-core-end.ensures.value, c.loop-core-test.true) in
     let begins = ap (λ (cfg : ConfigData). start_of (owner cfg core) core) (sym c.config-config.ensures) ∙ sym c.start_of.ensures in
     let reset = c.requires.reset ∙ ap (λ (m : Machine). map (λ place. reset_core place.affinity) m.shape.cores) (sym c.loop-core.invariant) in
+    let freed = set now.lists core free_registers in
+    let free : freed ≡ old.lists =
+    ap (λ lists. set lists core free_registers) (ap (λ (m : Machine). m.lists) c.loop-core.invariant ∙ c.requires.free)
+    ∙ free_set old.shape.cores core ∙ sym c.requires.free in
     elim c.match-start_of.branch [
       | in-Some w ↦
+          let started = set now.cores core (core_started now.shape core w.in-Some.start 0) in
           ap g.B.Board.state w.board-is
           ∙ w.reset_core.ensures
-          ∙ ap (λ (m : Machine). with_cores m (set now.cores core (core_started now.shape core w.in-Some.start 0))) c.loop-core.invariant
+          ∙ ap (λ (m : Machine). record m { cores = started; lists = freed }) c.loop-core.invariant
+          ∙ ap (λ lists. record old { cores = started; lists = lists }) free
           ∙ ap (with_cores old)
           (starts cfg old.shape.events now.shape shape core low old.cores reset now.cores (core + 1) w.in-Some.start (begins ∙ w.in-Some.is) (omega arith)
           (ap (λ (m : Machine). m.cores) c.loop-core.invariant))
