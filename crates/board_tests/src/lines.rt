@@ -8,8 +8,8 @@ use crate::trial::check;
 use board::Exit::{Irq, Ran};
 use std::test::Fail;
 
-/// `movz x0, #0x9c09, lsl #16` and `movz w1, #1`; `str` of W1 to the controls of the VM's console, of another VM's and of that
-/// of no VM; `movz w1, #2` and `str` of W1 to the ticker's period; `b .`
+/// `movz x0, #0x9c09, lsl #16` and `movz w1, #1`; a store of that to the controls of the VM's console, of another VM's and of
+/// that of no VM; `movz w1, #2` and a store of that to the ticker's period; `b .`
 const CONTROLS: [u32; 8] = [
     0xd2b3_8120,
     0x5280_0021,
