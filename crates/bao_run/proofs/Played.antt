@@ -5,6 +5,7 @@ use Rattle.bao_config.specs.Fits.{ConfigFits}
 use Rattle.bao_wellformed.specs.WellFormed.{IsWellFormed}
 use Rattle.board.specs.Machine.{Machine}
 use Rattle.vm_model.specs.Flat.{Flat, FlatEvent, flat_run, entered_count, first_unbuilt}
+use Rattle.vm_model.specs.Guests.{tables_of}
 use Rattle.vm_model.specs.Project.{project}
 use Rattle.hypervisor.specs.Hyp.{HypData, stands_for}
 use Rattle.hypervisor.specs.Shape.{shape_of}
@@ -15,9 +16,9 @@ use Rattle.bao_run.specs.Play.{IsRunThrough, booted, final}
 
 -- a run of the input's events from a state that is the model's at boot
 module _ (input : InputData) (start : Flat) (begun : start ≡ booted input) (events : List FlatEvent) (same : events ≡ input.events)
-    (hyp : HypData) (m : Machine) (state : stands_for hyp m ≡ flat_run input.cfg start events) where
+    (hyp : HypData) (m : Machine) (state : stands_for input.cfg hyp m ≡ flat_run input.cfg start events) where
   -- it ends where the model's ends
-  pub final_of : stands_for hyp m ≡ final input
+  pub final_of : stands_for input.cfg hyp m ≡ final input
   final_of = state ∙ ap (flat_run input.cfg start) same ∙ ap (λ f. flat_run input.cfg f input.events) begun
 
   pub run_through : IsWellFormed input.cfg → ConfigFits input.cfg → Tidy input.cfg hyp m → m.shape ≡ shape_of input.cfg (length input.events)
@@ -32,9 +33,9 @@ module _ (input : InputData) (start : Flat) (begun : start ≡ booted input) (ev
         let alike : entered_count input.cfg start events ≡ entered_count input.cfg (booted input) input.events =
         ap (entered_count input.cfg start) same ∙ ap (λ f. entered_count input.cfg f input.events) begun in
         omega (arith, none, entered, alike);
+    kept = tables_of hyp.tables;
     state =
-        ap (λ powers. project powers (final input).tables m) (sym (ap (λ (f : Flat). f.powers) final_of))
-        ∙ ap (λ tables. project hyp.powers tables m) (sym (ap (λ (f : Flat). f.tables) final_of)) ∙ final_of;
+        ap (λ powers. project input.cfg powers (tables_of hyp.tables) m) (sym (ap (λ (f : Flat). f.powers) final_of)) ∙ final_of;
     built =
         sym (ap (first_unbuilt input.cfg start 0) same ∙ ap (λ f. first_unbuilt input.cfg f 0 input.events) begun) ∙ built;
   }

@@ -10,6 +10,7 @@ use Rattle.report.specs.Status.{refusal_text}
 use Rattle.board.specs.Machine.{Machine}
 use Rattle.vm_model.specs.Flat.{Flat, flat_run, entered_count, first_unbuilt}
 use Rattle.vm_model.specs.Boot.{boot}
+use Rattle.vm_model.specs.Guests.{Tables}
 use Rattle.vm_model.specs.Project.{project}
 use Rattle.bao_run.specs.Call.{InputData, BoardUse}
 use Rattle.hypervisor.specs.Shape.{shape_of}
@@ -27,15 +28,17 @@ abbrev pub first_halt : InputData → Option ℕ
 first_halt input = first_unbuilt input.cfg (booted input) 0 input.events
 
 -- All events were run: the board has the shape of the configuration for so many events; the entries of each core realise the
--- map, and are its packing with zero entries after it; each event whose core ran has entered it; and memory, cores and ports
--- are those of the model.
+-- map, and are its packing with zero entries after it; each event whose core ran has entered it; and memory, cores, ports and
+-- raised lines are those of the model, as are the interrupts of each VM, those in its cores' list registers and those kept besides.
 pub record IsRunThrough (m : Machine) (input : InputData) : Type 0 where
   pub fitted : m.fitted ≡ true
   pub shape : m.shape ≡ shape_of input.cfg (length input.events)
   pub packed : ArePacked input.cfg m.entries
   pub entries : m.entries ≡ all_filled input.cfg.platform.cores (packings input.cfg)
   pub entered : m.entered ≡ entered_count input.cfg (booted input) input.events
-  pub state : project (final input).powers (final input).tables m ≡ final input
+  -- the interrupts of each VM that don't stand in list registers
+  pub kept : Tables
+  pub state : project input.cfg (final input).powers kept m ≡ final input
   pub built : first_halt input ≡ None
 
 -- the board isn't fitted, and its ports' states are as before

@@ -136,7 +136,7 @@ fn write_ending<K: Sink, B: Board>(
     requires fitted { (B.state board.now).fitted ≡ true }
     requires cores { length (B.state board.now).shape.cores ≡ length (checked_data checked.now).platform.cores }
     ensures taken { Takes (K.taken sink.old) (K.taken sink.new)
-        (text_of ending (checked_data checked.now) (stands_for hyp.now (B.state board.now))) result }
+        (text_of ending (checked_data checked.now) (stands_for (checked_data checked.now) hyp.now (B.state board.now))) result }
     ensures cause { HasCause (K.faults sink.old) (K.faults sink.new) result }
 {
     match ending {
@@ -151,7 +151,7 @@ fn start<B: Board>(alloc: Global, board: &mut B, input: &Input) -> Result<Hyp, O
     requires ports { (B.state board.old).ports ≡ standard_ports }
     requires input { CanPlay input.now }
     ensures tidy { IfOk result (λ hyp. Tidy (input_data input.now).cfg hyp (B.state board.new)) }
-    ensures state { IfOk result (λ hyp. stands_for hyp (B.state board.new) ≡ booted (input_data input.now)) }
+    ensures state { IfOk result (λ hyp. stands_for (input_data input.now).cfg hyp (B.state board.new) ≡ booted (input_data input.now)) }
     ensures shape { OnOk result ((B.state board.new).shape
         ≡ shape_of (input_data input.now).cfg (length (input_data input.now).events)) }
     ensures counts { OnOk result (((B.state board.new).entered ≡ 0) × ((B.state board.new).spent ≡ 0)) }
