@@ -1,5 +1,5 @@
 -- The machine on which the tests of interrupts run.
-use Rattle.std.specs.Prelude.{◌≡◌, ℕ, ◌<◌, true, [], ◌∷◌, map, replicate}
+use Rattle.std.specs.Prelude.{◌≡◌, true, [], ◌∷◌, map, replicate}
 use Rattle.bao_types.specs.Shape.{ShapeData}
 use Rattle.bao_types.specs.Region.{no_region}
 use Rattle.board.specs.Machine.{Machine}
@@ -21,12 +21,12 @@ bench_shape =
       events = 100000;
     }
 
--- a board of this shape that takes at least one more event
+-- a fitted board of this shape
 pub record IsReady (m : Machine) : Type 0 where
   pub fitted : m.fitted ≡ true
   pub shape : m.shape ≡ bench_shape
 
--- and one whose entries are zero and that has taken no step
+-- and one whose entries are zero and that has taken no event
 pub record IsBare (m : Machine) : Type 0 where
   pub ready : IsReady m
   pub entered : m.entered ≡ 0
