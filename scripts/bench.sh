@@ -1,16 +1,17 @@
 #!/usr/bin/env bash
 # Measures the proved program: how many steps it makes in a second in three loops (data processing alone, branches and
-# calls, loads and stores), and in eight VMs in turn, how many events of a generated workload, how often runs of few and of many steps took memory, the most memory that it had, also by how
-# much of its banks a VM uses, and how long the check of the largest lawful configuration takes. `bench.sh IMAGE` measures
-# another image that runs for ever in the place of the three. The variable PROGRAM names another program to measure, which
-# is then taken as it is.
+# calls, loads and stores), in a guest whose timer raises its line every 102 steps and the same guest without, and in eight
+# VMs in turn; how many events of a generated workload; how often runs of few and of many steps took memory; the most memory
+# that it had, also by how much of its banks a VM uses; and how long the check of the largest lawful configuration takes.
+# `bench.sh IMAGE` measures another image that runs for ever in the place of the three. The variable PROGRAM names another
+# program to measure, which is then taken as it is.
 #
 # Outside the gate, and no judge of time. The status is 1 where a run fails, where its report isn't the one that qemu
 # made (bench/LOOP.expected), where steps take memory, or where a small VM of a large bank takes 4 MiB or more; 2 where
 # nothing could be measured. It wants Debian's packages time and valgrind, and makes the proved program where it isn't
 # there yet.
 #
-# bench/LOOP.bin is made from bench/LOOP.s by aarch64-linux-gnu-as and aarch64-linux-gnu-objcopy -O binary (binutils
+# bench/LOOP.bin, and timer.bin, is made from its source by aarch64-linux-gnu-as and aarch64-linux-gnu-objcopy -O binary (binutils
 # 2.40). bench/LOOP.expected is the report after 1,000,000 steps in qemu-aarch64, as scripts/report-by-qemu.py prints it.
 
 top="$(dirname "$(dirname "$(readlink -f "${BASH_SOURCE[0]}")")")"
@@ -114,6 +115,31 @@ measure() {
 for loop in "${loops[@]}"; do
     measure "$loop"
 done
+
+# Measures the guest that sets its timer, by the name and the lowest 16 bits of what it writes to CNTV_CTL_EL0. Each step is
+# handed one count more than the one before. Its line is forwarded each time it rises; the guest takes no interrupt of it, since
+# no guest can enable one yet.
+measure_timer() {
+    local name="$1" control="$2" begin number fastest= took
+    take_image timer
+    # `movz x0, #control`
+    python3 -c "import struct, sys; sys.stdout.buffer.write(struct.pack('<I', 0xd2800000 + ($control << 5)))" |
+        dd of=a.bin conv=notrunc status=none || give_up 2 "the image of the timer can't be changed"
+    for ((number = 0; number < runs; number++)); do
+        begin="$(now)"
+        "$program" run config.toml counts </dev/null >out || give_up 1 "a run with $name failed: $(head -c 200 out)"
+        took=$(($(now) - begin))
+        [[ $(tail -n 1 out) == "done" ]] || give_up 1 "a run with $name put out no whole report"
+        [[ -n $fastest && $took -ge $fastest ]] || fastest="$took"
+    done
+    echo "$name: $((many * 1000000 / fastest)) steps per second ($many steps in $((fastest / 1000)) ms)"
+}
+
+if [[ $# == 0 ]]; then
+    seq -f 's 0 %.0f' 0 $((many - 1)) >counts
+    measure_timer "a timer that is off" 0
+    measure_timer "a timer's line every 102 steps" 1
+fi
 
 # Eight VMs on eight cores, each with the loop of data processing in memory of its own. Whether the time grows as the
 # number of steps does shows in the two speeds.
