@@ -33,7 +33,8 @@ module _ (input : InputData) (start : Flat) (begun : start ≡ booted input) (ev
         let alike : entered_count input.cfg start events ≡ entered_count input.cfg (booted input) input.events =
         ap (entered_count input.cfg start) same ∙ ap (λ f. entered_count input.cfg f input.events) begun in
         omega (arith, none, entered, alike);
-    kept = tables_of hyp.tables;
+    kept = hyp.tables;
+    held = tidy.held;
     state =
         ap (λ powers. project input.cfg powers (tables_of hyp.tables) m) (sym (ap (λ (f : Flat). f.powers) final_of)) ∙ final_of;
     built =

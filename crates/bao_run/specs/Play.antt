@@ -10,11 +10,13 @@ use Rattle.report.specs.Status.{refusal_text}
 use Rattle.board.specs.Machine.{Machine}
 use Rattle.vm_model.specs.Flat.{Flat, flat_run, entered_count, first_unbuilt}
 use Rattle.vm_model.specs.Boot.{boot}
-use Rattle.vm_model.specs.Guests.{Tables}
+use Rattle.vgic_table.specs.Interrupts.{Interrupts}
+use Rattle.vm_model.specs.Guests.{tables_of}
 use Rattle.vm_model.specs.Project.{project}
 use Rattle.bao_run.specs.Call.{InputData, BoardUse}
 use Rattle.hypervisor.specs.Shape.{shape_of}
 use Rattle.hypervisor.specs.Packed.{ArePacked, all_filled, packings}
+use Rattle.hypervisor.specs.Tidy.{AreHeld}
 
 -- the machine of the model at boot, and after all events
 abbrev pub booted : InputData → Flat
@@ -36,9 +38,10 @@ pub record IsRunThrough (m : Machine) (input : InputData) : Type 0 where
   pub packed : ArePacked input.cfg m.entries
   pub entries : m.entries ≡ all_filled input.cfg.platform.cores (packings input.cfg)
   pub entered : m.entered ≡ entered_count input.cfg (booted input) input.events
-  -- the interrupts of each VM that don't stand in list registers
-  pub kept : Tables
-  pub state : project input.cfg (final input).powers kept m ≡ final input
+  -- the interrupts of each VM that don't stand in list registers, which those that do fit
+  pub kept : List Interrupts
+  pub held : AreHeld input.cfg kept m.lists
+  pub state : project input.cfg (final input).powers (tables_of kept) m ≡ final input
   pub built : first_halt input ≡ None
 
 -- the board isn't fitted, and its ports' states are as before

@@ -1,9 +1,9 @@
 -- The first refusal among bytes that all have one verdict.
-use Rattle.std.proofs.Common.{◌≡◌, ℕ, zero, suc, ◌+◌, ◌^◌, ◌<◌, ◌≤◌, None, refl, arith}
+use Rattle.std.proofs.Common.{◌≡◌, ℕ, zero, suc, ◌+◌, ◌^◌, ◌<◌, ◌≤◌, None, false, refl, sym, ◌∙◌, arith}
 use Rattle.bao_types.specs.declared.access.Verdict.{Verdict}
-use Rattle.bao_types.specs.declared.access.Verdict.TheVariants.{Allow}
+use Rattle.bao_types.specs.declared.access.Verdict.TheVariants.{Allow, Translation, Permission}
 use Rattle.bao_types.specs.Bytes.{next_address}
-use Rattle.pmsa_table.specs.Whole.{first_refusal}
+use Rattle.pmsa_table.specs.Whole.{first_refusal, is_refused}
 
 -- none, where each byte is allowed
 pub all_allowed : (at n : ℕ) → first_refusal (λ byte. Allow) at n ≡ None
@@ -21,3 +21,17 @@ same_refusals one other at (suc n) last within bound same =
     = same_refusals one other (at + 1) n last (omega arith) bound (λ byte from to. same byte (omega arith) to) in
     let here : one at ≡ other at = same at (omega arith) (omega arith) in
     rw next (rw rest (rw here refl))
+
+-- a verdict that doesn't refuse allows
+pub not_refused : (verdict : Verdict) → is_refused verdict ≡ false → Allow ≡ verdict
+not_refused Allow is = refl
+not_refused Translation is = cc
+not_refused Permission is = cc
+
+-- no byte of a run that has one verdict is refused, if this verdict doesn't refuse
+pub run_allowed :
+    (one : ℕ → Verdict) (verdict : Verdict) (at n last : ℕ) → is_refused verdict ≡ false → at + n ≤ last → last < 2 ^ 64 →
+    ((byte : ℕ) → at ≤ byte → byte ≤ last → verdict ≡ one byte) → first_refusal one at n ≡ None
+run_allowed one verdict at n last is within bound same =
+    sym (same_refusals (λ byte. Allow) one at n last within bound (λ byte from to. not_refused verdict is ∙ same byte from to))
+    ∙ all_allowed at n

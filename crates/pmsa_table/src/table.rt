@@ -1,4 +1,5 @@
-ghost use Rattle.std.specs.Prelude.{◌≡◌, ◌+◌, ◌<◌, ◌≤◌, ◌^◌, slice_set, length};
+ghost use Rattle.std.specs.Prelude.{◌≡◌, ◌+◌, ◌<◌, ◌≤◌, ◌^◌, None, slice_set, length};
+ghost use Rattle.std.specs.Bool.{OnTrue};
 ghost use Rattle.bao_types.specs.declared.access.Access.TheVariants.{Read, Write, Exec};
 ghost use Rattle.pmsa_stage2.specs.Stage2.{stage2};
 ghost use Rattle.pmsa_table.specs.Span.{IsSpan};
@@ -103,6 +104,19 @@ impl Table {
             return refusal_at(span.verdict(access), at, count);
         }
         self.judge_each(access, at, count)
+    }
+
+    /// Whether the last hit of this kind of access tells by itself that none of `count` bytes from `at` on is refused. False
+    /// says nothing: it is also the answer where the bytes lie in another span, or reach the last byte of this one.
+    #[inline(always)]
+    pub fn allows(&self, access: Access, at: u64, count: u8) -> bool
+        ensures { OnTrue result (first_refusal (stage2 self.now access) at count ≡ None) }
+    {
+        let hit = self.hit(access);
+        if !hit.has(at) || u64::from(count) > hit.last - at {
+            return false;
+        }
+        !is_refused(hit.verdict(access))
     }
 }
 

@@ -208,3 +208,18 @@ fn an_access_that_wraps(rt: HostRuntime) {
         })
     );
 }
+
+/// A fresh table has no hit, and reading's is none of writing's.
+#[test]
+fn what_the_last_hit_allows(rt: HostRuntime) {
+    let mut table = table_of(&[MEMORY, NEXT]);
+    let fresh = table.allows(Access::Read, 0x10_0000, 8);
+    let judged = table.judge(Access::Read, 0x10_0000);
+    let within = table.allows(Access::Read, 0x10_ff00, 16);
+    let beyond = table.allows(Access::Read, 0x10_fff9, 8);
+    let written = table.allows(Access::Write, 0x10_0000, 8);
+    assert_eq!(rt;
+        (judged, [fresh, within, beyond, written]),
+        (OK, [false, true, false, false])
+    );
+}

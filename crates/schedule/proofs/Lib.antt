@@ -3,6 +3,7 @@ pub mod Digits
 pub mod Numbers
 pub mod Lines
 pub mod Spelled
+pub mod Begins
 pub mod Reading
 pub mod Counts
 pub mod Drawn

@@ -1,5 +1,5 @@
 -- A line, cut at its blanks.
-use Rattle.std.proofs.Common.{◌≡◌, ℕ, ◌==◌, true, false, List, [], ◌∷◌, length, sym, refl, ap, subst, ◌∙◌, arith}
+use Rattle.std.proofs.Common.{◌≡◌, ℕ, ◌<◌, ◌==◌, true, false, List, [], ◌∷◌, length, sym, refl, ap, subst, ◌∙◌, arith}
 use Rattle.std.specs.Prelude.{Option, Some, None}
 use Rattle.std.specs.List.{All, list_all, join_with_byte}
 use Rattle.std.specs.Char.{is_ascii_digit}
@@ -15,15 +15,20 @@ use Rattle.schedule.specs.declared.line.Line.TheVariants.{BadForm}
 use Rattle.schedule.proofs.Cuts.{some_part}
 use Rattle.schedule.proofs.Numbers.{own, number_is}
 
--- no digit is a blank
-no_blank : (digit : ℕ) → is_ascii_digit digit ≡ true → (digit == 32) ≡ false
-no_blank digit h = grind (arith, nat_tests)
+-- no digit is a byte below all digits
+not_below : (byte digit : ℕ) → byte < 48 → is_ascii_digit digit ≡ true → (digit == byte) ≡ false
+not_below byte digit low h = grind (arith, nat_tests)
+
+pub none_below_digits : (byte : ℕ) (text : List ℕ) → byte < 48 → list_all is_ascii_digit text ≡ true
+    → All (λ other. (other == byte) ≡ false) text
+none_below_digits byte [] low h = All-nil (λ other. (other == byte) ≡ false)
+none_below_digits byte (digit ∷ text) low h =
+    let both = and_parts (is_ascii_digit digit) (list_all is_ascii_digit text) h in
+    All-cons (λ other. (other == byte) ≡ false) digit text (not_below byte digit low both.0)
+    (none_below_digits byte text low both.1)
 
 pub no_blanks : (text : List ℕ) → list_all is_ascii_digit text ≡ true → All (λ other. (other == 32) ≡ false) text
-no_blanks [] h = All-nil (λ other. (other == 32) ≡ false)
-no_blanks (digit ∷ text) h =
-    let both = and_parts (is_ascii_digit digit) (list_all is_ascii_digit text) h in
-    All-cons (λ other. (other == 32) ≡ false) digit text (no_blank digit both.0) (no_blanks text both.1)
+no_blanks text h = none_below_digits 32 text (omega arith) h
 
 -- a number has no blank in it
 number_whole : (text : List ℕ) (n : ℕ) → number_of text ≡ Some n → parts 32 text ≡ text ∷ []

@@ -6,8 +6,8 @@ use Rattle.std.proofs.lemmas.Bool.Decides.{nat_tests}
 use Rattle.std.proofs.lemmas.List.Elements.{All-nil, All-push}
 use Rattle.bao_types.specs.Shape.{event_limit}
 use Rattle.bao_config.specs.Data.{ConfigData}
-use Rattle.schedule.specs.Parts.{parts, IsWhole, IsCut}
-use Rattle.schedule.specs.Line.{line_of}
+use Rattle.schedule.specs.Parts.{parts, IsWhole}
+use Rattle.schedule.specs.Line.{line_of, BeginsWithLine}
 use Rattle.hypervisor.specs.Event.{IsPlaced, is_core, is_assigned}
 use Rattle.hypervisor.specs.declared.event.Event.{Event}
 use Rattle.hypervisor.specs.declared.event.Event.TheVariants as event
@@ -113,57 +113,53 @@ begins cfg bytes =
     }
 
 -- the first line decides, where something stands behind it
-next_line : (cfg : ConfigData) (reached : Reached) (line : List ℕ) (more : List (List ℕ)) → 0 < length more
-    → answer_from cfg reached (line ∷ more)
-    ≡ unless_bad (reached.lines + 1) (broken_rule cfg reached.count (length reached.events) (line_of line))
-    (answer_from cfg (with_line (line_of line) reached) more)
+next_line : (cfg : ConfigData) (reached : Reached) (line : List ℕ) (said : Line) (more : List (List ℕ)) → said ≡ line_of line
+    → 0 < length more → answer_from cfg reached (line ∷ more)
+    ≡ unless_bad (reached.lines + 1) (broken_rule cfg reached.count (length reached.events) said)
+    (answer_from cfg (with_line said reached) more)
 unfolding answer_from
-next_line cfg reached line [] some = absurd (omega arith)
-next_line cfg reached line (next ∷ others) some = refl
+next_line cfg reached line said [] says some = absurd (omega arith)
+next_line cfg reached line said (next ∷ others) says some =
+    ap (λ l. unless_bad (reached.lines + 1) (broken_rule cfg reached.count (length reached.events) l)
+    (answer_from cfg (with_line l reached) (next ∷ others))) (sym says)
 
-module _ (cfg : ConfigData) (bytes : List ℕ) (reached : Reached) (rest line others : List ℕ)
-    (reading : IsReading cfg bytes reached rest) (cut : IsCut 10 rest line others) where
+module _ (cfg : ConfigData) (bytes : List ℕ) (reached : Reached) (rest : List ℕ) (said : Line) (others : List ℕ)
+    (reading : IsReading cfg bytes reached rest) (first : BeginsWithLine rest said others) where
   at_line : schedule_of cfg bytes
-      ≡ unless_bad (reached.lines + 1) (broken_rule cfg reached.count (length reached.events) (line_of line))
-      (answer_from cfg (with_line (line_of line) reached) (parts 10 others))
+      ≡ unless_bad (reached.lines + 1) (broken_rule cfg reached.count (length reached.events) said)
+      (answer_from cfg (with_line said reached) (parts 10 others))
   at_line =
-      reading.left ∙ ap (answer_from cfg reached) cut.cut
-      ∙ next_line cfg reached line (parts 10 others) (some_part 10 others)
+      reading.left ∙ ap (answer_from cfg reached) first.cut.cut
+      ∙ next_line cfg reached first.line said (parts 10 others) first.says (some_part 10 others)
 
-  by_rule : (rule : Option ℕ) → broken_rule cfg reached.count (length reached.events) (line_of line) ≡ rule
-      → schedule_of cfg bytes
-      ≡ unless_bad (reached.lines + 1) rule (answer_from cfg (with_line (line_of line) reached) (parts 10 others))
+  by_rule : (rule : Option ℕ) → broken_rule cfg reached.count (length reached.events) said ≡ rule
+      → schedule_of cfg bytes ≡ unless_bad (reached.lines + 1) rule (answer_from cfg (with_line said reached) (parts 10 others))
   by_rule rule is =
-      at_line
-      ∙ ap (λ r. unless_bad (reached.lines + 1) r (answer_from cfg (with_line (line_of line) reached) (parts 10 others))) is
+      at_line ∙ ap (λ r. unless_bad (reached.lines + 1) r (answer_from cfg (with_line said reached) (parts 10 others))) is
 
-  with_one : broken_rule cfg reached.count (length reached.events) (line_of line) ≡ None
-      → IsReading cfg bytes (with_line (line_of line) reached) others
+  with_one : broken_rule cfg reached.count (length reached.events) said ≡ None
+      → IsReading cfg bytes (with_line said reached) others
   with_one kept =
       record {
         left = by_rule None kept;
-        lines = omega (arith, reading.lines, cut.fewer);
-        so_far = lawful_after cfg reached (line_of line) kept reading.so_far;
+        lines = omega (arith, reading.lines, first.cut.fewer);
+        so_far = lawful_after cfg reached said kept reading.so_far;
       }
 
-  -- the line was taken, of a configuration and a line that are these
-  pub goes_on : (own : ConfigData) (said : Line) (after : Reached) → TakesLine own reached said after → own ≡ cfg
-      → said ≡ line_of line → IsReading cfg bytes after others
-  goes_on own said after takes same here =
-      let these : TakesLine cfg reached (line_of line) after =
-      subst (λ l. TakesLine cfg reached l after) here (subst (λ g. TakesLine g reached said after) same takes) in
+  -- the line was taken, of a configuration that is this
+  pub goes_on : (own : ConfigData) (after : Reached) → TakesLine own reached said after → own ≡ cfg → IsReading cfg bytes after others
+  goes_on own after takes same =
+      let these : TakesLine cfg reached said after = subst (λ g. TakesLine g reached said after) same takes in
       subst (λ r. IsReading cfg bytes r others) (sym these.taken) (with_one these.kept)
 
-  broken_here : (error : ScheduleError) → IsRefused cfg reached (line_of line) error → TellsBroken (schedule_of cfg bytes) error
+  broken_here : (error : ScheduleError) → IsRefused cfg reached said error → TellsBroken (schedule_of cfg bytes) error
   broken_here (Bad number rule) refused = by_rule (Some rule) refused.1 ∙ ap (λ n. Broken n rule) (sym refused.0)
   broken_here OutOfMemory refused = tt
 
   -- the line was refused
-  pub stops : (own : ConfigData) (said : Line) (error : ScheduleError) → IsRefused own reached said error → own ≡ cfg
-      → said ≡ line_of line → TellsBroken (schedule_of cfg bytes) error
-  stops own said error refused same here =
-      broken_here error
-      (subst (λ l. IsRefused cfg reached l error) here (subst (λ g. IsRefused g reached said error) same refused))
+  pub stops : (own : ConfigData) (error : ScheduleError) → IsRefused own reached said error → own ≡ cfg
+      → TellsBroken (schedule_of cfg bytes) error
+  stops own error refused same = broken_here error (subst (λ g. IsRefused g reached said error) same refused)
 
 none_left : (rest : List ℕ) → length rest ≡ 0 → rest ≡ []
 none_left [] none = refl

@@ -1,5 +1,5 @@
 -- Decimal numbers of 64 bits.
-use Rattle.std.specs.Prelude.{ℕ, ◌^◌, ◌==◌, ◌&&◌, nat_lt, Bool, false, if◌then◌else◌, List, [], ◌∷◌, length, Option, None, Some}
+use Rattle.std.specs.Prelude.{◌≡◌, ℕ, ◌^◌, ◌<◌, ◌==◌, ◌&&◌, nat_lt, Bool, false, if◌then◌else◌, List, [], ◌∷◌, ◌++◌, length, Option, None, Some}
 use Rattle.std.specs.List.{list_all}
 use Rattle.std.specs.Char.{is_ascii_digit}
 use Rattle.std.specs.Fmt.{decimal}
@@ -23,3 +23,8 @@ abbrev pub is_padded : List ℕ → Bool
 is_padded [] = false
 is_padded (digit ∷ []) = false
 is_padded (first ∷ second ∷ others) = first == 48
+
+-- For private clauses: the text begins with this number, as it is written, and this stands behind it.
+pub record BeginsWithNumber (text : List ℕ) (n : ℕ) (behind : List ℕ) : Type 0 where
+  pub fits : n < 2 ^ 64
+  pub written : text ≡ decimal n ++ behind

@@ -1,7 +1,8 @@
 //! What a line says.
-ghost use Rattle.std.specs.Prelude.{◌≡◌, ◌∷◌};
-ghost use Rattle.schedule.specs.Parts.{parts};
-ghost use Rattle.schedule.specs.Line.{line_of, parts_of, entry_in, entry_of};
+ghost use Rattle.std.specs.Prelude.{◌≡◌, ◌∷◌, IfSome, MatchOption};
+ghost use Rattle.schedule.specs.Parts.{parts, IsWhole};
+ghost use Rattle.schedule.specs.Number.{BeginsWithNumber};
+ghost use Rattle.schedule.specs.Line.{line_of, parts_of, entry_in, entry_of, BeginsWithLine};
 
 use crate::cut::cut_at;
 use crate::number::number;
@@ -67,4 +68,62 @@ fn entry(kind: &[u8], first: Option<u64>, second: Option<u64>) -> Line
         ([b'i'], Ok(byte)) => Line::Input { port: first, byte },
         _ => Line::BadForm,
     }
+}
+
+/// What the first line of a text says, and what stands behind that line, where there is one.
+#[inline(always)]
+pub(crate) fn next_line(text: &[u8]) -> Option<(Line, &[u8])>
+    ensures { MatchOption result (IsWhole 10 text.now) (λ next. BeginsWithLine text.now next.0 next.1.now) }
+{
+    if let Some(step) = step_at_start(text) {
+        return Some(step);
+    }
+    let (line, behind) = cut_at(text, b'\n')?;
+    Some((read_line(line), behind))
+}
+
+/// The step that the first line of a text says, and what stands behind that line, where the text begins with one. Most
+/// lines are steps, and this reads one in a single pass.
+#[inline(always)]
+fn step_at_start(text: &[u8]) -> Option<(Line, &[u8])>
+    ensures { IfSome result (λ step. BeginsWithLine text.now step.0 step.1.now) }
+{
+    let [b's', b' ', rest @ ..] = text else {
+        return None;
+    };
+    let (core, rest) = leading_number(rest)?;
+    let [b' ', rest @ ..] = rest else {
+        return None;
+    };
+    let (count, rest) = leading_number(rest)?;
+    let [b'\n', rest @ ..] = rest else {
+        return None;
+    };
+    Some((Line::Step { core, count }, rest))
+}
+
+/// The number that a text begins with, and what stands behind it.
+#[inline(always)]
+fn leading_number(text: &[u8]) -> Option<(u64, &[u8])>
+    ensures { IfSome result (λ number. BeginsWithNumber text.now number.0 number.1.now) }
+{
+    let [first, behind @ ..] = text else {
+        return None;
+    };
+    if !first.is_ascii_digit() {
+        return None;
+    }
+    let mut n = u64::from(*first - b'0');
+    let mut rest = behind;
+    if n == 0 {
+        return Some((0, rest));
+    }
+    while let [b, behind @ ..] = rest {
+        if !b.is_ascii_digit() {
+            break;
+        }
+        n = n.checked_mul(10)?.checked_add(u64::from(*b - b'0'))?;
+        rest = behind;
+    }
+    Some((n, rest))
 }

@@ -26,6 +26,7 @@ pub struct Progress {
 
 impl Progress {
     /// Takes the next line.
+    #[inline(always)]
     pub(crate) fn take(&mut self, config: &Config, line: Line) -> Result<(), ScheduleError>
         requires { self.old.lines + 1 < 2 ^ 32 }
         ensures { MatchResult result

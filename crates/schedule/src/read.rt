@@ -5,9 +5,8 @@ ghost use Rattle.schedule.specs.Schedule.{schedule_of, Events};
 ghost use Rattle.schedule.specs.Lawful.{IsLawful};
 ghost use Rattle.schedule.specs.Answer.{TellsBroken};
 
-use crate::cut::cut_at;
 use crate::error::ScheduleError;
-use crate::line::read_line;
+use crate::line::next_line;
 use crate::progress::Progress;
 use bao_wellformed::Checked;
 use hypervisor::Event;
@@ -42,8 +41,8 @@ pub fn read_schedule(
         lines: 0,
     };
     let mut rest = bytes;
-    while let Some((line, others)) = cut_at(rest, b'\n') {
-        progress.take(config, read_line(line))?;
+    while let Some((line, others)) = next_line(rest) {
+        progress.take(config, line)?;
         rest = others;
     }
     if !rest.is_empty() {

@@ -41,7 +41,7 @@ devs = [{ port = 1, irq = 40 }]
 
 /// A schedule, and its events or the first line that breaks a rule.
 #[rattlefmt::skip]
-static ROWS: [(&[u8], &str); 36] = [
+static ROWS: [(&[u8], &str); 38] = [
     (b"", "[]"),
     (b"\n", "[]"),
     (b"#\n", "[]"),
@@ -50,8 +50,10 @@ static ROWS: [(&[u8], &str); 36] = [
     (b"s 1 7\ni 1 255\n", "[Step { core: 1, count: 7 }, Input { port: 1, byte: 255 }]"),
     (b"\n#\ns 0 3\ns 1 3\n", "[Step { core: 0, count: 3 }, Step { core: 1, count: 3 }]"),
     (b"s 0 18446744073709551615\n", "[Step { core: 0, count: 18446744073709551615 }]"),
+    (b"s 1 10\ns 0 100\n", "[Step { core: 1, count: 10 }, Step { core: 0, count: 100 }]"),
     // 1: the form
     (b"s 0 18446744073709551616\n", "line 1 rule 1"),
+    (b"s 0 18446744073709551620\n", "line 1 rule 1"),
     (b"s 18446744073709551616 0\n", "line 1 rule 1"),
     (b"i 100000000000000000000 0\n", "line 1 rule 1"),
     (b"s 0 0", "line 1 rule 1"),

@@ -2,6 +2,7 @@
 -- the ports.
 use Rattle.std.proofs.Common.{◌≡◌, ℕ, zero, suc, ◌+◌, ◌^◌, ◌<◌, ◌≤◌, Bool, true, false, refl, sym, ap, ◌∙◌, arith}
 use Rattle.std.specs.Prelude.{not, if◌then◌else◌, Option, None, Some}
+use Rattle.std.specs.Bool.{OnTrue}
 use Rattle.std.specs.Option.{option_map}
 use Rattle.bao_types.specs.Bytes.{next_address}
 use Rattle.bao_types.specs.RegionMatch.{region_match}
@@ -83,6 +84,14 @@ all_allowed core is =
 pub off : (core : CoreData) (two : Stage) (access : Access) (at n : ℕ) → is_on core.sys.sctlr ≡ false
     → first_fault (λ access at. Allow) two access at n ≡ first_fault (by_regions core) two access at n
 off core two access at n is = ap (λ one. first_fault one two access at n) (all_allowed core is)
+
+-- so there is no fault where the first stage is off and the second refuses nothing
+pub none_by_second : (core : CoreData) (two : Stage) (access : Access) (at n : ℕ) (allows : Bool) → is_on core.sys.sctlr ≡ false
+    → OnTrue allows (first_refusal (two access) at n ≡ None)
+    → OnTrue allows (first_fault (by_regions core) two access at n ≡ None)
+none_by_second core two access at n true is none =
+    sym (off core two access at n is) ∙ sym (second_none two access at n (sym none))
+none_by_second core two access at n false is none = tt
 
 -- bytes that lie between a first and a last one which are free, as are all between them
 pub all_free : (port : ℕ → Bool) (first last : ℕ) → ((byte : ℕ) → first ≤ byte → byte ≤ last → port byte ≡ false)

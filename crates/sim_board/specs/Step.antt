@@ -1,19 +1,24 @@
 -- What a step leaves.
-use Rattle.std.specs.Prelude.{◌≡◌, ℕ, Bool, ◌||◌, ◌&&◌, if◌then◌else◌, List, Result, Ok, Err, Option, None, Some}
+use Rattle.std.specs.Prelude.{◌≡◌, ℕ, Bool, ◌||◌, ◌&&◌, if◌then◌else◌, List, Option, None, Some}
 use Rattle.bao_types.specs.ListReg.{ListRegData}
+use Rattle.bao_types.specs.declared.region.Region.{Region}
+use Rattle.bao_types.specs.declared.shape.PortSpot.{PortSpot}
 use Rattle.a64_state.specs.Core.{CoreData}
+use Rattle.a64_decode.specs.Table.{decoded}
+use Rattle.a64_decode.specs.declared.instr.Instr.{Instr}
+use Rattle.a64_execute.specs.Want.{wanted}
 use Rattle.a64_address.specs.declared.shape.MemShape.{MemShape}
 use Rattle.gic_core.specs.Lines.{LinesData}
 use Rattle.vgic_iface.specs.Interface.{best_listed, listed_signal}
 use Rattle.a64_sysreg.specs.declared.moment.Moment.{Moment}
 use Rattle.board.specs.declared.board.Exit.{Exit}
 use Rattle.board.specs.declared.judged.Fault.{Fault}
-use Rattle.board.specs.declared.judged.Judged.{Judged}
-use Rattle.board.specs.declared.judged.Judged.TheVariants.{Memory, Refused}
-use Rattle.board.specs.Attempt.{Effect, checks_alignment, is_misaligned, is_sp_misaligned}
+use Rattle.board.specs.Attempt.{Effect, attempt, checks_alignment, effect_of, is_misaligned, is_sp_misaligned, load_effect, store_effect}
 use Rattle.board.specs.Interrupts.{core_after, exit_of, lines_accessed, lists_after}
+use Rattle.board.specs.Judge.{Reach}
 use Rattle.board.specs.Machine.{written}
-use Rattle.board.specs.Ports.{PortStates, all_accessed}
+use Rattle.board.specs.Ports.{PortStates, all_accessed, number_at}
+use Rattle.sim_board.specs.Reached.{reached}
 use Rattle.sim_board.specs.declared.access.Way.{Way}
 use Rattle.sim_board.specs.declared.access.Way.TheVariants as way
 
@@ -49,10 +54,31 @@ Ends effect core exit =
 abbrev pub moment_of : CoreData → List ListRegData → ℕ → Moment
 moment_of core lists count = record { count = count; signal = listed_signal core.iface lists }
 
--- a fetch that gave a word, or a fault
-abbrev pub word_judged : Result ℕ Fault → Judged
-word_judged (Ok word) = Memory word
-word_judged (Err fault) = Refused fault
+-- what a core attempts once it comes to the word at PC, which is in memory
+abbrev pub worded : Reach → CoreData → Moment → (ℕ → ℕ) → Effect
+worded reach core moment bytes =
+    let instr = decoded (number_at bytes core.pc 4) in effect_of reach core moment instr (wanted core instr)
+
+-- an attempt that comes to its word leaves the core as it is till then; one that comes to none leaves this core and ends so
+abbrev pub Begins : Effect → Effect → CoreData → CoreData → Option Exit → Type 0
+Begins whole word core next None = (next ≡ core) × (whole ≡ word)
+Begins whole word core next (Some exit) = Ends whole next exit
+
+-- what a core that reaches memory by these entries leaves before it comes to its word, whatever the ports are and memory holds
+abbrev pub IsBegun : CoreData → List Region → CoreData → Option Exit → Type 0
+IsBegun core entries next exit =
+    (moment : Moment) (spots : List PortSpot) (states : PortStates) (bytes : ℕ → ℕ)
+    → Begins (attempt (reached core entries spots states bytes) core moment)
+    (worded (reached core entries spots states bytes) core moment bytes) core next exit
+
+-- what a load and a store of this shape do, once SP and their start were checked
+abbrev pub load_judged : Reach → CoreData → Moment → Instr → MemShape → Effect
+load_judged reach core moment instr shape =
+    load_effect reach.places core moment instr shape (reach.loaded shape.at shape.width shape.count)
+
+abbrev pub store_judged : Reach → CoreData → Moment → Instr → MemShape → ℕ → Effect
+store_judged reach core moment instr shape value =
+    store_effect reach.places core moment instr shape value (reach.storable shape.at shape.width shape.count)
 
 -- an access with this first fault, of whose bytes none is a port's or some are
 abbrev pub way_of : Option Fault → Bool → Way

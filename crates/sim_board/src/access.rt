@@ -1,23 +1,23 @@
-//! Fetches, loads and stores: each is judged as a whole, and nothing of it is done where a byte is refused.
+//! Loads and stores: each is judged as a whole, and nothing of it is done where a byte is refused.
 ghost use Rattle.std.specs.Prelude.{◌≡◌, ◌+◌, ◌≤◌, ◌%◌, false, IsTrue};
+ghost use Rattle.std.specs.Bool.{OnTrue};
 ghost use Rattle.bao_types.specs.Bytes.{IsWidth};
-ghost use Rattle.bao_types.specs.declared.access.Access.TheVariants.{Exec};
 ghost use Rattle.a64_execute.specs.Want.{bytes_of, IsAccess};
 ghost use Rattle.board.specs.Stage.{by_entries, by_regions};
-ghost use Rattle.board.specs.Judge.{all_from, fault_else, first_fault, is_free};
+ghost use Rattle.board.specs.Judge.{all_from, first_fault, is_free};
 ghost use Rattle.board.specs.Attempt.{is_misaligned};
 ghost use Rattle.board.specs.Interrupts.{lines_accessed};
 ghost use Rattle.board.specs.Machine.{port_places, written};
-ghost use Rattle.board.specs.declared.judged.Judged.TheVariants.{Memory};
-ghost use Rattle.board.specs.Ports.{all_accessed, element_read, element_stored, element_value, element_written, elements_read, elements_stored, elements_value, elements_written, number_at as number_from};
+ghost use Rattle.board.specs.Ports.{all_accessed, element_read, element_stored, element_value, element_written, elements_read, elements_stored, elements_value, elements_written};
 ghost use Rattle.phys_bank.specs.Banks.{byte_at, is_kept};
 ghost use Rattle.sim_board.specs.Devices.{is_backed};
 ghost use Rattle.sim_board.specs.Memory.{IsSpanned};
-ghost use Rattle.sim_board.specs.Step.{way_of, word_judged};
+ghost use Rattle.sim_board.specs.declared.access.Way.TheVariants as way;
+ghost use Rattle.sim_board.specs.Step.{way_of};
 
 use crate::devices::{Devices, power};
-use crate::judge::first_fault;
-use crate::memory::{number_at, store, word_at};
+use crate::judge::{first_fault, passes_at_once};
+use crate::memory::{store, word_at};
 use a64_address::MemShape;
 use a64_state::Core;
 use bao_types::Access;
@@ -36,17 +36,26 @@ pub(crate) enum Way {
     Refused(Fault),
 }
 
-/// The word at `pc`, a multiple of 4.
+/// Whether one look at the last hit tells that a load or a store is carried out in memory. False says nothing.
+#[tactic(auto, using(crate::proofs::Ways::plain))]
 #[inline(always)]
-pub(crate) fn fetch(core: &Core, memory: &Banks, table: &mut Table, pc: u64) -> Result<u32, Fault>
-    ensures word { word_judged result
-        ≡ fault_else (first_fault (by_regions core.now) (by_entries table.old) Exec pc 4) (Memory (number_from (byte_at memory.now) pc 4)) }
-    ensures entries { table.new ≡ table.old }
+pub(crate) fn is_plain<D: Devices>(
+    core: &Core,
+    table: &Table,
+    devices: &D,
+    access: Access,
+    shape: &MemShape,
+) -> bool
+    requires { IsAccess shape.now }
+    ensures { OnTrue result (way.Memory ≡ way_of
+        (first_fault (by_regions core.now) (by_entries table.now) access shape.now.at (bytes_of shape.now))
+        (is_free (port_places (D.spots devices.now)) shape.now.at (bytes_of shape.now))) }
 {
-    match first_fault(core, table, Access::Exec, pc, 4) {
-        Some(fault) => Err(fault),
-        None => Ok(number_at(memory, pc, 4) as u32),
+    let count = byte_count(shape) as u8;
+    if !passes_at_once(core, table, access, shape.at, count) {
+        return false;
     }
+    devices.is_free(shape.at, count)
 }
 
 /// How a load or a store is carried out.

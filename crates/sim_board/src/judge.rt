@@ -1,5 +1,6 @@
 //! Which byte of an access is refused first, by the EL1 regions of its core and by its EL2 entries.
 ghost use Rattle.std.specs.Prelude.{◌≡◌, None, true, false};
+ghost use Rattle.std.specs.Bool.{OnTrue};
 ghost use Rattle.bao_types.specs.declared.access.Verdict.TheVariants.{Allow};
 ghost use Rattle.board.specs.Stage.{by_entries, by_regions, is_allowed};
 ghost use Rattle.board.specs.Judge.{fault_or, first_fault};
@@ -11,7 +12,6 @@ use pmsa_stage1::{is_on, judge1};
 use pmsa_table::Table;
 
 /// The first byte that a stage refuses, of so many from `at` on. Addresses wrap at 2^64.
-#[tactic(auto, using(crate::proofs::Judged::off))]
 #[inline(always)]
 pub(crate) fn first_fault(
     core: &Core,
@@ -20,6 +20,32 @@ pub(crate) fn first_fault(
     at: u64,
     count: u8,
 ) -> Option<Fault>
+    ensures fault { result ≡ first_fault (by_regions core.now) (by_entries table.old) access at count }
+    ensures entries { table.new ≡ table.old }
+{
+    if passes_at_once(core, table, access, at, count) {
+        return None;
+    }
+    first_of(core, table, access, at, count)
+}
+
+/// Whether one look at the last hit tells that no stage refuses one of so many bytes from `at` on: the first stage is off, and
+/// the second allows all of them. False says nothing.
+#[tactic(auto, using(crate::proofs::Judged::none_by_second))]
+#[inline(always)]
+pub(crate) fn passes_at_once(core: &Core, table: &Table, access: Access, at: u64, count: u8) -> bool
+    ensures { OnTrue result (first_fault (by_regions core.now) (by_entries table.now) access at count ≡ None) }
+{
+    if is_on(core.sys.sctlr) {
+        return false;
+    }
+    table.allows(access, at, count)
+}
+
+/// The first byte that a stage refuses, where one look at the last hit doesn't tell.
+#[tactic(auto, using(crate::proofs::Judged::off))]
+#[inline(never)]
+fn first_of(core: &Core, table: &mut Table, access: Access, at: u64, count: u8) -> Option<Fault>
     ensures fault { result ≡ first_fault (by_regions core.now) (by_entries table.old) access at count }
     ensures entries { table.new ≡ table.old }
 {

@@ -16,11 +16,12 @@ ghost use Rattle.board.specs.declared.judged.Judged.TheVariants.{Port};
 ghost use Rattle.phys_bank.specs.Banks.{byte_at, is_kept};
 ghost use Rattle.sim_board.specs.Devices.{is_backed};
 ghost use Rattle.sim_board.specs.Reached.{IsContained, reached};
-ghost use Rattle.sim_board.specs.Step.{carried_out, Ends, moment_of};
+ghost use Rattle.sim_board.specs.Step.{carried_out, Ends, IsBegun, load_judged, moment_of, store_judged};
 
-use crate::access::{Way, byte_count, fetch, judge, read_elements, write_elements};
+use crate::access::{Way, byte_count, is_plain, judge, read_elements, write_elements};
 use crate::devices::Devices;
 use crate::fault::{is_misaligned, is_stopped, misalign, raise, refuse_data, refuse_fetch, stop};
+use crate::judge::{first_fault, passes_at_once};
 use crate::memory::{number_at, store};
 use a64_address::MemShape;
 use a64_decode::{Instr, decode};
@@ -121,9 +122,7 @@ fn take_irq(core: &mut Core) -> Exit
     Exit::Ran
 }
 
-/// Attempts the instruction at PC: PC is looked at first, then the fetch is judged, and then PSTATE.IL is looked at, before the
-/// word.
-#[tactic(auto, unfolding(board::specs::Attempt::attempt))]
+/// Attempts the instruction at PC.
 #[inline(always)]
 fn attempt<D: Devices>(
     core: &mut Core,
@@ -151,23 +150,53 @@ fn attempt<D: Devices>(
         (attempt (reached core.old table.old (D.spots devices.old) (D.states devices.old) (byte_at memory.old)) core.old moment.now)
         lists.old (byte_at memory.old) (D.states devices.old) (D.lines devices.old) }
 {
-    let pc = core.pc;
-    if pc % 4 != 0 {
-        return raise(core, syndrome(Class::PcAlignment, 0), Some(pc), pc);
-    }
-    match fetch(core, memory, table, pc) {
-        Err(fault) => refuse_fetch(core, fault),
-        Ok(_) if pstate::illegal_state(core.pstate) => {
-            raise(core, syndrome(Class::IllegalState, 0), None, pc)
-        }
-        Ok(word) => {
+    match begin(core, table) {
+        Some(exit) => exit,
+        None => {
             let fetched = Fetched {
-                instr: decode(word),
+                instr: decode(number_at(memory, core.pc, 4) as u32),
                 moment: *moment,
             };
             execute(core, lists, memory, devices, table, &fetched)
         }
     }
+}
+
+/// Does what comes before the word at PC, and tells how the step ends if it comes to no word.
+#[tactic(auto, unfolding(board::specs::Attempt::attempt))]
+#[inline(always)]
+fn begin(core: &mut Core, table: &mut Table) -> Option<Exit>
+    ensures begun { IsBegun core.old table.old core.new result }
+    ensures entries { table.new ≡ table.old }
+{
+    let pc = core.pc;
+    if pc % 4 == 0
+        && passes_at_once(core, table, Access::Exec, pc, 4)
+        && !pstate::illegal_state(core.pstate)
+    {
+        return None;
+    }
+    judge_fetch(core, table)
+}
+
+/// Looks at PC first, then judges the fetch, and then looks at PSTATE.IL, before the word.
+#[tactic(auto, unfolding(board::specs::Attempt::attempt))]
+#[inline(never)]
+fn judge_fetch(core: &mut Core, table: &mut Table) -> Option<Exit>
+    ensures begun { IsBegun core.old table.old core.new result }
+    ensures entries { table.new ≡ table.old }
+{
+    let pc = core.pc;
+    if pc % 4 != 0 {
+        return Some(raise(core, syndrome(Class::PcAlignment, 0), Some(pc), pc));
+    }
+    if let Some(fault) = first_fault(core, table, Access::Exec, pc, 4) {
+        return Some(refuse_fetch(core, fault));
+    }
+    if pstate::illegal_state(core.pstate) {
+        return Some(raise(core, syndrome(Class::IllegalState, 0), None, pc));
+    }
+    None
 }
 
 /// Executes an instruction that was fetched.
@@ -287,9 +316,51 @@ fn take_load<D: Devices>(
           exit = result;
         }
         ≡ carried_out
-        (load_effect (port_places (D.spots devices.old)) core.old request.now.fetched.now.moment request.now.fetched.now.instr request.now.shape.now
-        ((reached core.old table.old (D.spots devices.old) (D.states devices.old) (byte_at memory.now)).loaded
-        request.now.shape.now.at request.now.shape.now.width request.now.shape.now.count))
+        (load_judged (reached core.old table.old (D.spots devices.old) (D.states devices.old) (byte_at memory.now)) core.old
+        request.now.fetched.now.moment request.now.fetched.now.instr request.now.shape.now)
+        lists (byte_at memory.now) (D.states devices.old) (D.lines devices.old) }
+{
+    if is_plain(core, table, devices, Access::Read, request.shape) {
+        let got = number_at(memory, request.shape.at, byte_count(request.shape));
+        return finish_access(core, request, got);
+    }
+    // A copy is lent out, so that the request itself needs no place in memory.
+    let (fetched, shape) = (*request.fetched, *request.shape);
+    let request = Request {
+        fetched: &fetched,
+        shape: &shape,
+        value: request.value,
+    };
+    judge_load(core, memory, devices, table, &request)
+}
+
+/// Takes a load of which one look at the last hit doesn't tell that it is carried out in memory.
+#[inline(never)]
+fn judge_load<D: Devices>(
+    core: &mut Core,
+    memory: &Banks,
+    devices: &mut D,
+    table: &mut Table,
+    request: &Request<'_>,
+) -> Exit
+    requires lawful { IsLawful request.now.fetched.now.instr }
+    requires access { IsAccess request.now.shape.now }
+    requires need { access_asked (wanted core.old request.now.fetched.now.instr) ≡ Some request.now.shape.now }
+    ensures entries { table.new ≡ table.old }
+    ensures spots { D.spots devices.new ≡ D.spots devices.old }
+    ensures room { D.room devices.old ≤ D.room devices.new + 2 }
+    ensures end { (lists : List ListRegData)
+        → record {
+          core = core.new;
+          lists = lists;
+          bytes = byte_at memory.now;
+          ports = D.states devices.new;
+          lines = D.lines devices.new;
+          exit = result;
+        }
+        ≡ carried_out
+        (load_judged (reached core.old table.old (D.spots devices.old) (D.states devices.old) (byte_at memory.now)) core.old
+        request.now.fetched.now.moment request.now.fetched.now.instr request.now.shape.now)
         lists (byte_at memory.now) (D.states devices.old) (D.lines devices.old) }
 {
     match judge(core, table, devices, Access::Read, request.shape) {
@@ -405,9 +476,59 @@ fn take_store<D: Devices>(
           exit = result;
         }
         ≡ carried_out
-        (store_effect (port_places (D.spots devices.old)) core.old request.now.fetched.now.moment request.now.fetched.now.instr request.now.shape.now request.now.value
-        ((reached core.old table.old (D.spots devices.old) (D.states devices.old) (byte_at memory.old)).storable
-        request.now.shape.now.at request.now.shape.now.width request.now.shape.now.count))
+        (store_judged (reached core.old table.old (D.spots devices.old) (D.states devices.old) (byte_at memory.old)) core.old
+        request.now.fetched.now.moment request.now.fetched.now.instr request.now.shape.now request.now.value)
+        lists (byte_at memory.old) (D.states devices.old) (D.lines devices.old) }
+{
+    if is_plain(core, table, devices, Access::Write, request.shape) {
+        store(
+            memory,
+            request.shape.at,
+            byte_count(request.shape),
+            request.value,
+        );
+        return finish_access(core, request, 0);
+    }
+    // A copy is lent out, so that the request itself needs no place in memory.
+    let (fetched, shape) = (*request.fetched, *request.shape);
+    let request = Request {
+        fetched: &fetched,
+        shape: &shape,
+        value: request.value,
+    };
+    judge_store(core, memory, devices, table, &request)
+}
+
+/// Takes a store of which one look at the last hit doesn't tell that it is carried out in memory.
+#[inline(never)]
+fn judge_store<D: Devices>(
+    core: &mut Core,
+    memory: &mut Banks,
+    devices: &mut D,
+    table: &mut Table,
+    request: &Request<'_>,
+) -> Exit
+    requires lawful { IsLawful request.now.fetched.now.instr }
+    requires access { IsAccess request.now.shape.now }
+    requires need { access_asked (wanted core.old request.now.fetched.now.instr) ≡ Some request.now.shape.now }
+    requires contained { IsContained (is_kept memory.old) table.old (D.spots devices.old) }
+    requires room { 2 ≤ D.room devices.old }
+    ensures kept { is_kept memory.new ≡ is_kept memory.old }
+    ensures entries { table.new ≡ table.old }
+    ensures spots { D.spots devices.new ≡ D.spots devices.old }
+    ensures room { D.room devices.old ≤ D.room devices.new + 2 }
+    ensures end { (lists : List ListRegData)
+        → record {
+          core = core.new;
+          lists = lists;
+          bytes = byte_at memory.new;
+          ports = D.states devices.new;
+          lines = D.lines devices.new;
+          exit = result;
+        }
+        ≡ carried_out
+        (store_judged (reached core.old table.old (D.spots devices.old) (D.states devices.old) (byte_at memory.old)) core.old
+        request.now.fetched.now.moment request.now.fetched.now.instr request.now.shape.now request.now.value)
         lists (byte_at memory.old) (D.states devices.old) (D.lines devices.old) }
 {
     match judge(core, table, devices, Access::Write, request.shape) {

@@ -4,7 +4,7 @@ use Rattle.board.specs.Attempt.{load_effect}
 use Rattle.board.specs.Machine.{port_places}
 use Rattle.sim_board.specs.Step.{carried_out}
 use Rattle.sim_board.proofs.Ways.{not_at_all}
-use Rattle.sim_board.proofs.step.take_load.Goals as goal
+use Rattle.sim_board.proofs.step.judge_load.Goals as goal
 
 pub returns-in-Refused-clause-end : goal.returns-in-Refused-clause-end
 returns-in-Refused-clause-end g c =
