@@ -5,7 +5,6 @@ use Rattle.outside.specs.Shelf.{Files, IfHeld}
 use Rattle.outside.specs.Sink.{grown}
 use Rattle.outside.specs.Use.{last_count}
 use Rattle.outside.proofs.Told.{risen-other, held_fact}
-use Rattle.report.specs.declared.status.Part.TheVariants as part
 use Rattle.report.specs.declared.status.Status.{Status}
 use Rattle.report.specs.declared.status.Status.TheVariants as status
 use Rattle.bao_run.specs.Words.{Command, Run, Check, Generate, Unknown, Plays, IsCheck, command_of}
@@ -13,7 +12,7 @@ use Rattle.bao_run.specs.Call.{Call}
 use Rattle.bao_run.specs.Ruling.{Ruling, Refused, Missing, Shown, Accept, ruling}
 use Rattle.bao_run.specs.Input.{lacking}
 use Rattle.bao_run.specs.Outcome.{Outcome, IsIsolated, IsRuled, ForSomeInput}
-use Rattle.bao_run.specs.Answers.{Answers, IsReadWell, status_by, status_after}
+use Rattle.bao_run.specs.Answers.{Answers, IsReadWell, status_by}
 use Rattle.bao_run.proofs.Alone.{ending-alone}
 
 -- what runs a board is no check
@@ -47,8 +46,7 @@ module _ (call : Call) (files : Files) (held : call.shelf.held ≡ Some files) w
   complete : (answer : Status) → Outcome call answer → call.shelf.before.faults < last_count → IsReadWell call files
       → call.sink.faults_before < last_count → call.sink.faults_after ≡ call.sink.faults_before
       → (answer ≡ status_by (ruling call.words files)) ⊎ (answer ≡ status.OutOfMemory)
-  complete status.Done (inl (input, done)) low well wlow wsame =
-      ruled (Accept input) status.Done done.accepted.told (sym (ap status_after done.played.board.built))
+  complete status.Done (inl (input, done)) low well wlow wsame = ruled (Accept input) status.Done done.accepted.told refl
   complete status.Done (inr checked) low well wlow wsame = ruled (Shown checked.cfg) status.Done checked.told refl
   complete status.Usage (command, h) low well wlow wsame = refused status.Usage h
   complete (status.ReadFault file) h low (inl same) wlow wsame =
@@ -69,8 +67,6 @@ module _ (call : Call) (files : Files) (held : call.shelf.held ≡ Some files) w
   complete status.WriteFault (inr fault) low well wlow wsame =
       absurd (risen-other call.sink.faults_before wlow (sym fault.text.1 ∙ wsame))
   complete status.OutOfMemory h low well wlow wsame = inr refl
-  complete (status.NotBuilt (part.Event n)) (input, halted) low well wlow wsame =
-      ruled (Accept input) (status.NotBuilt (part.Event n)) halted.accepted.told (sym (ap status_after halted.played.unbuilt))
 
 -- all that the top call promises
 pub answers_from : (call : Call) (answer : Status) → Outcome call answer → Answers call answer

@@ -208,4 +208,3 @@ module _ (held : Option Files) (start now new : Blame) (config schedule : List â
   image_refused (status.BadSchedule line rule) h = absurd h
   image_refused status.WriteFault h = absurd h
   image_refused status.OutOfMemory h = h âˆ™ same_faults
-  image_refused (status.NotBuilt part) h = absurd h

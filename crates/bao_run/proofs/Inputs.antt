@@ -72,7 +72,6 @@ module _ (shelf : ShelfUse) (config : List ℕ) (command : Command) (next : File
   config_refused (status.BadSchedule line rule) h = absurd h
   config_refused status.WriteFault h = absurd h
   config_refused status.OutOfMemory h = h
-  config_refused (status.NotBuilt part) h = absurd h
 
 config_first : (config : List ℕ) (others : List (FileId × List ℕ)) → first_named config ((file.Config, config) ∷ others) ≡ Some file.Config
 config_first config others = rw (same_itself config) refl
@@ -113,7 +112,6 @@ module _ (shelf : ShelfUse) (config : List ℕ) (cfg : ConfigData) (holds : IfHe
   check_answer (Err (status.BadSchedule line rule)) h = absurd h
   check_answer (Err status.WriteFault) h = absurd h
   check_answer (Err status.OutOfMemory) h = faultless
-  check_answer (Err (status.NotBuilt part)) h = absurd h
 
 -- a run of a well-formed configuration
 module _ (shelf : ShelfUse) (config schedule : List ℕ) (cfg : ConfigData) (holds : IfHeld shelf.held (λ files. HoldsConfig files config cfg)) where
@@ -138,7 +136,6 @@ module _ (shelf : ShelfUse) (config schedule : List ℕ) (cfg : ConfigData) (hol
   packing_refused faultless (status.BadSchedule line rule) h = absurd h
   packing_refused faultless status.WriteFault h = absurd h
   packing_refused faultless status.OutOfMemory h = faultless
-  packing_refused faultless (status.NotBuilt part) h = absurd h
 
   -- images and schedule decide
   module _ (packable : IsPackable cfg) where
@@ -194,7 +191,6 @@ module _ (shelf : ShelfUse) (config schedule : List ℕ) (cfg : ConfigData) (hol
       images_refused (status.BadSchedule line rule) h = absurd h
       images_refused status.WriteFault h = absurd h
       images_refused status.OutOfMemory h = h ∙ same_faults
-      images_refused (status.NotBuilt part) h = absurd h
 
       -- all images have come: the schedule decides
       module _ (images : List (List ℕ)) (count : length images ≡ length cfg.vms) (told : IfHeld shelf.held (λ files. AreImages files cfg.vms images)) where
@@ -259,7 +255,6 @@ module _ (shelf : ShelfUse) (config schedule : List ℕ) (cfg : ConfigData) (hol
         schedule_refused blamed at (status.BadSchedule line rule) h = absurd h
         schedule_refused blamed at status.WriteFault h = absurd h
         schedule_refused blamed at status.OutOfMemory h = h ∙ same_faults
-        schedule_refused blamed at (status.NotBuilt part) h = absurd h
 
         -- the bytes of the schedule have come
         module _ (bytes : List ℕ) (content : IfTold shelf.held schedule (λ content. content ≡ Some bytes)) (short : length bytes ≤ schedule_limit)

@@ -4,7 +4,6 @@ use Rattle.bao_wellformed.specs.Checked.{checked_data}
 use Rattle.outside.specs.Shelf.{Files, IfHeld}
 use Rattle.outside.specs.Use.{IsFaultless, IsPut}
 use Rattle.outside.proofs.Told.{every}
-use Rattle.report.specs.declared.status.Part.TheVariants as part
 use Rattle.report.specs.declared.status.Status.{Status}
 use Rattle.report.specs.declared.status.Status.TheVariants as status
 use Rattle.report.specs.Section.{report}
@@ -64,7 +63,6 @@ module _ (call : Call) (board : call.board.after ≡ call.board.before) where
     unfitted = (ap (λ m. m.fitted) board ∙ unfitted, ap (λ m. m.ports) board);
     line = line;
   }
-  refused_input (status.NotBuilt (part.Event number)) reads unfitted h line = absurd h
 
   -- a packing, as far as it was put out
   pub shown : (packed : Packed) → IsCheck (command_of call.words) → IsShown call.shelf (command_of call.words) packed
@@ -95,7 +93,6 @@ module _ (call : Call) (board : call.board.after ≡ call.board.before) where
     text = text;
   })
   shown packed check h status.OutOfMemory text = absurd text
-  shown packed check h (status.NotBuilt part) text = absurd text
 
 -- an accepted input was run, as far as it came
 module _ (call : Call) (command : IsCommand (command_of call.words)) (input : InputData) (accepted : IsAccepted call input) where
@@ -110,7 +107,6 @@ module _ (call : Call) (command : IsCommand (command_of call.words)) (input : In
   played (status.BadSchedule line rule) p = absurd p
   played status.WriteFault p = inl (input, record { accepted = accepted; played = p })
   played status.OutOfMemory p = record { command = command; read = accepted.read; unfitted = p.unfitted; line = p.line }
-  played (status.NotBuilt (part.Event number)) p = (input, record { accepted = accepted; played = p })
 
 runnable : (input : Input) → CanPlay input → IsRunnable (input_data input)
 runnable input playable = record {

@@ -1,10 +1,9 @@
--- What a run leaves of the board, where all its events are built.
+-- What a run leaves of the board.
 use Rattle.std.proofs.Common.{◌≡◌, ℕ, ◌+◌, List, length, sym, ap, ◌∙◌, arith}
-use Rattle.std.specs.Prelude.{None}
 use Rattle.bao_config.specs.Fits.{ConfigFits}
 use Rattle.bao_wellformed.specs.WellFormed.{IsWellFormed}
 use Rattle.board.specs.Machine.{Machine}
-use Rattle.vm_model.specs.Flat.{Flat, FlatEvent, flat_run, entered_count, first_unbuilt}
+use Rattle.vm_model.specs.Flat.{Flat, FlatEvent, flat_run, entered_count}
 use Rattle.vm_model.specs.Guests.{tables_of}
 use Rattle.vm_model.specs.Project.{project}
 use Rattle.hypervisor.specs.Hyp.{HypData, stands_for}
@@ -23,8 +22,8 @@ module _ (input : InputData) (start : Flat) (begun : start ≡ booted input) (ev
 
   pub run_through : IsWellFormed input.cfg → ConfigFits input.cfg → Tidy input.cfg hyp m → m.shape ≡ shape_of input.cfg (length input.events)
       → (before : ℕ) → before ≡ 0 → m.entered ≡ before + entered_count input.cfg start events
-      → first_unbuilt input.cfg start 0 events ≡ None → IsRunThrough m input
-  run_through well_formed fits tidy shape before none entered built = record {
+      → IsRunThrough m input
+  run_through well_formed fits tidy shape before none entered = record {
     fitted = tidy.fitted;
     shape = shape;
     packed = record { realised = (tidy_packed input.cfg hyp m tidy well_formed fits).realised };
@@ -37,6 +36,4 @@ module _ (input : InputData) (start : Flat) (begun : start ≡ booted input) (ev
     held = tidy.held;
     state =
         ap (λ powers. project input.cfg powers (tables_of hyp.tables) m) (sym (ap (λ (f : Flat). f.powers) final_of)) ∙ final_of;
-    built =
-        sym (ap (first_unbuilt input.cfg start 0) same ∙ ap (λ f. first_unbuilt input.cfg f 0 input.events) begun) ∙ built;
   }

@@ -9,7 +9,6 @@ use Rattle.bao_config.specs.Data.{ConfigData, VmData}
 use Rattle.bao_wellformed.specs.Checked.{checked_data}
 use Rattle.report.specs.declared.status.FileId.{FileId}
 use Rattle.report.specs.declared.status.FileId.TheVariants as file
-use Rattle.report.specs.declared.status.Part.TheVariants as part
 use Rattle.report.specs.declared.status.Status.{Status}
 use Rattle.report.specs.declared.status.Status.TheVariants as status
 use Rattle.schedule.specs.Schedule.{Events, schedule_of}
@@ -74,7 +73,6 @@ IsRefused shelf command (status.BadSchedule line rule) =
     IsRun command × IsRuledBy shelf command (Refused (status.BadSchedule line rule))
 IsRefused shelf command status.WriteFault = ⊥
 IsRefused shelf command status.OutOfMemory = IsFaultless shelf
-IsRefused shelf command (status.NotBuilt (part.Event number)) = ⊥
 
 -- what an `Input` is made of
 abbrev pub input_data : Input → InputData
@@ -141,4 +139,3 @@ IsFetch shelf wanted (Err (status.TooMany core runs entries)) = ⊥
 IsFetch shelf wanted (Err (status.BadSchedule line rule)) = ⊥
 IsFetch shelf wanted (Err status.WriteFault) = ⊥
 IsFetch shelf wanted (Err status.OutOfMemory) = IsFaultless shelf
-IsFetch shelf wanted (Err (status.NotBuilt part)) = ⊥

@@ -4,7 +4,6 @@ use Rattle.bao_config.specs.Data.{ConfigData, VmData}
 use Rattle.bao_config.specs.Fits.{ConfigFits}
 use Rattle.bao_wellformed.specs.WellFormed.{IsWellFormed}
 use Rattle.report.specs.declared.status.FileId.{FileId}
-use Rattle.report.specs.declared.status.Part.TheVariants as part
 use Rattle.report.specs.declared.status.Status.{Status}
 use Rattle.report.specs.declared.status.Status.TheVariants as status
 use Rattle.report.specs.Lines.{done_line}
@@ -117,7 +116,6 @@ Outcome call (status.BadSchedule line rule) =
     IsRun (command_of call.words) × IsRuled call (status.BadSchedule line rule)
 Outcome call status.WriteFault = ForSomeInput (IsRunTo call status.WriteFault) ⊎ IsChecked call IsCut
 Outcome call status.OutOfMemory = IsOutOfMemory call
-Outcome call (status.NotBuilt (part.Event number)) = ForSomeInput (IsRunTo call (status.NotBuilt (part.Event number)))
 
 -- what is told of VMs, each after its own run alone on the machine
 unfoldable pub lone_texts : (ConfigData → Flat → ℕ → List ℕ) → InputData → ℕ → List VmData → List ℕ

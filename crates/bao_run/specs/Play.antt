@@ -1,14 +1,13 @@
 -- What the parts of a run answer, between the reading of the files and the report.
-use Rattle.std.specs.Prelude.{◌≡◌, ℕ, true, false, List, Option, None, Some, length}
+use Rattle.std.specs.Prelude.{◌≡◌, ℕ, true, false, List, length}
 use Rattle.outside.specs.Use.{SinkUse, IsTaken, IsCut, IsPut}
-use Rattle.report.specs.declared.status.Part.TheVariants as part
 use Rattle.report.specs.declared.status.Status.{Status}
 use Rattle.report.specs.declared.status.Status.TheVariants as status
 use Rattle.bao_config.specs.Data.{ConfigData}
 use Rattle.report.specs.Packing.{packing_text}
 use Rattle.report.specs.Status.{refusal_text}
 use Rattle.board.specs.Machine.{Machine}
-use Rattle.vm_model.specs.Flat.{Flat, flat_run, entered_count, first_unbuilt}
+use Rattle.vm_model.specs.Flat.{Flat, flat_run, entered_count}
 use Rattle.vm_model.specs.Boot.{boot}
 use Rattle.vgic_table.specs.Interrupts.{Interrupts}
 use Rattle.vm_model.specs.Guests.{tables_of}
@@ -25,10 +24,6 @@ booted input = boot input.cfg input.images
 abbrev pub final : InputData → Flat
 final input = flat_run input.cfg (booted input) input.events
 
--- the number of the first event that does something that isn't built
-abbrev pub first_halt : InputData → Option ℕ
-first_halt input = first_unbuilt input.cfg (booted input) 0 input.events
-
 -- All events were run: the board has the shape of the configuration for so many events; the entries of each core realise the
 -- map, and are its packing with zero entries after it; each event whose core ran has entered it; and memory, cores, ports and
 -- raised lines are those of the model, as are the interrupts of each VM, those in its cores' list registers and those kept besides.
@@ -42,7 +37,6 @@ pub record IsRunThrough (m : Machine) (input : InputData) : Type 0 where
   pub kept : List Interrupts
   pub held : AreHeld input.cfg kept m.lists
   pub state : project input.cfg (final input).powers (tables_of kept) m ≡ final input
-  pub built : first_halt input ≡ None
 
 -- the board isn't fitted, and its ports' states are as before
 abbrev pub IsUnfitted : BoardUse → Type 0
@@ -62,12 +56,6 @@ pub record IsCutShort (ending : Text) (input : InputData) (used : BoardUse) (sin
   pub board : IsRunThrough used.after input
   pub text : IsCut sink (ending input.cfg (final input))
 
--- the event of this number is the first that does something that isn't built
-pub record IsHalted (number : ℕ) (input : InputData) (board : BoardUse) (sink : SinkUse) : Type 0 where
-  pub unbuilt : first_halt input ≡ Some number
-  pub fitted : board.after.fitted ≡ true
-  pub line : IsPut sink (refusal_text (status.NotBuilt (part.Event number)))
-
 -- memory ran out while the board was fitted
 pub record IsStarved (board : BoardUse) (sink : SinkUse) : Type 0 where
   pub unfitted : IsUnfitted board
@@ -85,7 +73,6 @@ IsShowing cfg sink (status.TooMany core runs entries) = ⊥
 IsShowing cfg sink (status.BadSchedule line rule) = ⊥
 IsShowing cfg sink status.WriteFault = IsCut sink (packing_text cfg (packings cfg))
 IsShowing cfg sink status.OutOfMemory = ⊥
-IsShowing cfg sink (status.NotBuilt part) = ⊥
 
 -- by the status of a run that ends with this text: what it left of the board and the sink
 abbrev pub IsPlayed : Text → InputData → BoardUse → SinkUse → Status → Type 0
@@ -99,4 +86,3 @@ IsPlayed text input board sink (status.TooMany core runs entries) = ⊥
 IsPlayed text input board sink (status.BadSchedule line rule) = ⊥
 IsPlayed text input board sink status.WriteFault = IsCutShort text input board sink
 IsPlayed text input board sink status.OutOfMemory = IsStarved board sink
-IsPlayed text input board sink (status.NotBuilt (part.Event number)) = IsHalted number input board sink

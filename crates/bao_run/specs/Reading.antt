@@ -49,7 +49,6 @@ IsConfigAnswer shelf config (Err (status.TooMany core runs entries)) = ⊥
 IsConfigAnswer shelf config (Err (status.BadSchedule line rule)) = ⊥
 IsConfigAnswer shelf config (Err status.WriteFault) = ⊥
 IsConfigAnswer shelf config (Err status.OutOfMemory) = IsFaultless shelf
-IsConfigAnswer shelf config (Err (status.NotBuilt part)) = ⊥
 
 -- all cores have a packing, so what comes after decides
 abbrev pub IsPackable : ConfigData → Type 0
@@ -101,7 +100,6 @@ IsImagesAnswer shelf config schedule cfg (Err (status.TooMany core runs entries)
 IsImagesAnswer shelf config schedule cfg (Err (status.BadSchedule line rule)) = ⊥
 IsImagesAnswer shelf config schedule cfg (Err status.WriteFault) = ⊥
 IsImagesAnswer shelf config schedule cfg (Err status.OutOfMemory) = IsFaultless shelf
-IsImagesAnswer shelf config schedule cfg (Err (status.NotBuilt part)) = ⊥
 
 -- the status of a core that has no packing
 abbrev pub packing_status : ℕ → PackError → Status
@@ -126,7 +124,6 @@ IsPackedAnswer cfg (Err (status.TooMany core runs entries)) = IsOverfull cfg cor
 IsPackedAnswer cfg (Err (status.BadSchedule line rule)) = ⊥
 IsPackedAnswer cfg (Err status.WriteFault) = ⊥
 IsPackedAnswer cfg (Err status.OutOfMemory) = ⊤
-IsPackedAnswer cfg (Err (status.NotBuilt part)) = ⊥
 
 -- the status of a schedule that isn't taken
 abbrev pub schedule_status : ScheduleError → Status

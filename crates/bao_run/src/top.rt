@@ -24,7 +24,7 @@ use board::Board;
 use core_interleave::run;
 use hypervisor::Hyp;
 use outside::{Shelf, Sink, SinkFailed};
-use report::{Part, Status, write_packing, write_refusal, write_report, write_summary};
+use report::{Status, write_packing, write_refusal, write_report, write_summary};
 use std::alloc::Global;
 use vm_create::{boot, shape_for};
 
@@ -115,10 +115,7 @@ fn play<K: Sink, B: Board>(
         Ok(hyp) => hyp,
         Err(OutOfMemory) => return refuse(sink, Status::OutOfMemory),
     };
-    if let Err(number) = run(&mut hyp, &input.packed.checked, board, &input.events) {
-        let part = Part::Event(number);
-        return refuse(sink, Status::NotBuilt { part });
-    }
+    run(&mut hyp, &input.packed.checked, board, &input.events);
     match write_ending(sink, board, &input.packed.checked, &hyp, ending) {
         Ok(()) => Status::Done,
         Err(_) => Status::WriteFault,

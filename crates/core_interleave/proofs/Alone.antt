@@ -1,5 +1,5 @@
 -- A run ends for each VM where the VM's own run ends.
-use Rattle.std.proofs.Common.{◌≡◌, ℕ, zero, suc, List, [], ◌∷◌, take, map, All, sym, ap, subst, ◌∙◌}
+use Rattle.std.proofs.Common.{◌≡◌, ℕ, List, [], ◌∷◌, map, All, sym, ap, subst, ◌∙◌}
 use Rattle.std.proofs.lemmas.List.Elements.{All-nil, All-cons}
 use Rattle.bao_config.specs.Data.{ConfigData}
 use Rattle.bao_config.specs.Fits.{ConfigFits}
@@ -23,12 +23,6 @@ is_scheduled (event.Input port byte) = tt
 pub all_scheduled : (events : List Event) → All IsOfSchedule (map flat_event events)
 all_scheduled [] = All-nil IsOfSchedule
 all_scheduled (e ∷ events) = All-cons IsOfSchedule (flat_event e) (map flat_event events) (is_scheduled e) (all_scheduled events)
-
-pub first_scheduled : (n : ℕ) (events : List Event) → All IsOfSchedule (take n (map flat_event events))
-first_scheduled zero events = All-nil IsOfSchedule
-first_scheduled (suc n) [] = All-nil IsOfSchedule
-first_scheduled (suc n) (e ∷ events) =
-    All-cons IsOfSchedule (flat_event e) (take n (map flat_event events)) (is_scheduled e) (first_scheduled n events)
 
 pub ends_as_alone : (cfg : ConfigData) (start end : Flat) (events : List FlatEvent) → IsWellFormed cfg → ConfigFits cfg
     → All IsOfSchedule events → end ≡ flat_run cfg start events → EndsAsAlone cfg start events end

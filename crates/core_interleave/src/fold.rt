@@ -1,53 +1,34 @@
-ghost use Rattle.std.specs.Prelude.{◌≡◌, ◌+◌, ◌≤◌, All, map, length, MatchResult, Some, None};
-ghost use Rattle.bao_types.specs.Shape.{event_limit};
+ghost use Rattle.std.specs.Prelude.{◌≡◌, ◌+◌, ◌≤◌, All, map, length};
 ghost use Rattle.bao_wellformed.specs.Checked.{checked_data};
-ghost use Rattle.vm_model.specs.Flat.{flat_run, first_unbuilt, entered_count};
+ghost use Rattle.vm_model.specs.Flat.{flat_run, entered_count};
 ghost use Rattle.hypervisor.specs.Hyp.{stands_for};
 ghost use Rattle.hypervisor.specs.Event.{flat_event, IsPlaced};
 ghost use Rattle.hypervisor.specs.Tidy.{Tidy};
-ghost use Rattle.core_interleave.specs.Run.{taken_events, EndsAsAlone};
+ghost use Rattle.core_interleave.specs.Run.{EndsAsAlone};
 
 use bao_wellformed::Checked;
 use board::Board;
 use hypervisor::{Event, Hyp};
 
-/// Takes the events in their order, up to the first that does something that isn't built yet, and that one too.
-///
-/// # Errors
-///
-/// The number of that event, counted from 0.
-pub fn run<B: Board>(
-    hyp: &mut Hyp,
-    checked: &Checked,
-    board: &mut B,
-    events: &[Event],
-) -> Result<(), u32>
+/// Takes the events in their order.
+pub fn run<B: Board>(hyp: &mut Hyp, checked: &Checked, board: &mut B, events: &[Event])
     requires tidy { Tidy (checked_data checked.now) hyp.old (B.state board.old) }
     requires placed { All (IsPlaced (checked_data checked.now)) events.now }
-    requires few { length events.now ≤ event_limit }
     requires spent { (B.state board.old).spent + length events.now ≤ (B.state board.old).shape.events }
     ensures tidy { Tidy (checked_data checked.now) hyp.new (B.state board.new) }
-    ensures built { let f = stands_for (checked_data checked.now) hyp.old (B.state board.old) in
-        let first = first_unbuilt (checked_data checked.now) f 0 (map flat_event events.now) in
-        MatchResult result (λ _. first ≡ None) (λ number. first ≡ Some number) }
     ensures state { let f = stands_for (checked_data checked.now) hyp.old (B.state board.old) in
         stands_for (checked_data checked.now) hyp.new (B.state board.new)
-        ≡ flat_run (checked_data checked.now) f (taken_events result (map flat_event events.now)) }
+        ≡ flat_run (checked_data checked.now) f (map flat_event events.now) }
     ensures entered { let f = stands_for (checked_data checked.now) hyp.old (B.state board.old) in
         (B.state board.new).entered
-        ≡ (B.state board.old).entered
-        + entered_count (checked_data checked.now) f (taken_events result (map flat_event events.now)) }
+        ≡ (B.state board.old).entered + entered_count (checked_data checked.now) f (map flat_event events.now) }
     ensures alone { let f = stands_for (checked_data checked.now) hyp.old (B.state board.old) in
-        EndsAsAlone (checked_data checked.now) f (taken_events result (map flat_event events.now))
+        EndsAsAlone (checked_data checked.now) f (map flat_event events.now)
         (stands_for (checked_data checked.now) hyp.new (B.state board.new)) }
     ensures shape { (B.state board.new).shape ≡ (B.state board.old).shape }
     ensures entries { (B.state board.new).entries ≡ (B.state board.old).entries }
 {
-    for (number, event) in events.iter().enumerate() {
-        let built = hyp.event(checked, board, event);
-        if !built {
-            return Err(number as u32);
-        }
+    for event in events {
+        hyp.event(checked, board, event);
     }
-    Ok(())
 }

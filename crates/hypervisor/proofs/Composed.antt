@@ -20,7 +20,7 @@ use Rattle.vgic_iface.specs.Interface.{is_unlisted}
 use Rattle.vgic_table.specs.Interrupts.{Interrupts}
 use Rattle.vgic_table.specs.Changes.{made_inactive}
 use Rattle.vm_model.specs.Cores.{place_of}
-use Rattle.vm_model.specs.Duty.{done, duty_of, is_not_built}
+use Rattle.vm_model.specs.Duty.{done, duty_of}
 use Rattle.vm_model.specs.Flat.{Flat, flat_duty, flat_effect, flat_guests, flat_left, flat_moment, flat_stepped, platform_places}
 use Rattle.vm_model.specs.Guests.{Guests, Tables, tables_of}
 use Rattle.vm_model.specs.Interrupts.{best_of, table_after, virtual_number, with_table}
@@ -29,7 +29,7 @@ use Rattle.hypervisor.specs.Change.{Change, IsListed}
 use Rattle.hypervisor.specs.Hyp.{HypData, stands_for}
 use Rattle.hypervisor.specs.Seat.{IsSeatOf}
 use Rattle.hypervisor.specs.declared.seat.Seat.{Seat}
-use Rattle.hypervisor.specs.Taken.{IsLeft, IsSame, IsSettled, ended_guests, guests_of, is_exit_unbuilt}
+use Rattle.hypervisor.specs.Taken.{IsLeft, IsSame, IsSettled, ended_guests, guests_of}
 use Rattle.hypervisor.specs.Tidy.{Tidy}
 use Rattle.hypervisor.proofs.Carried.{carried_settled, carried_tables, carried_tidy, table_carried, table_settled}
 use Rattle.hypervisor.proofs.Left.{left_same, left_tidy}
@@ -231,24 +231,3 @@ module _ (cfg : ConfigData) (well_formed : IsWellFormed cfg) (fits : ConfigFits 
     settled_tidy ended is settled =
         left_tidy cfg hyp new board after _ (carried_tidy cfg well_formed fits hyp m tidy seat at count listed) (settled_left ended is settled)
         (done_length cfg core (flat_guests cfg flat core (flat_effect cfg flat core count)) (flat_duty cfg flat core count))
-
-  -- what isn't built is what isn't in the model
-  pub unbuilt_alike : (ended : Exit) → ended ≡ exit_of effect.outcome (lists_at m.lists core)
-      → is_exit_unbuilt cfg core ended (guests_of cfg hyp board) ≡ is_not_built (flat_duty cfg flat core count)
-  unbuilt_alike ended is =
-      ap (λ x. is_exit_unbuilt cfg core x (guests_of cfg hyp board)) is
-      ∙ by_outcome_built effect.outcome by_lists_is
-      ∙ ap (λ g. is_not_built (duty_of cfg core effect.outcome g)) all_is
-      ∙ ap (λ (e : Effect). is_not_built (duty_of cfg core e.outcome (flat_guests cfg flat core (flat_effect cfg flat core count)))) effect_is
-    where
-      by_outcome_built : (outcome : Outcome) → guests_of cfg hyp board ≡ by_lists outcome
-          → is_exit_unbuilt cfg core (exit_of outcome (lists_at m.lists core)) (guests_of cfg hyp board)
-          ≡ is_not_built (duty_of cfg core outcome (all outcome))
-      by_outcome_built Ran is = refl
-      by_outcome_built Acknowledged is = refl
-      by_outcome_built (Ended id) is = by_test (is_unlisted (lists_at m.lists core) id)
-        where
-          by_test : (none : Bool) → is_exit_unbuilt cfg core (if none then exit.End id else exit.Ran) (guests_of cfg hyp board) ≡ false
-          by_test true = refl
-          by_test false = refl
-      by_outcome_built (Leave esr far) is = ap (λ g. is_not_built (duty_of cfg core (Leave esr far) g)) is

@@ -22,8 +22,8 @@ use Rattle.vgic_table.specs.Registers.{Tidy as FitsTable}
 use Rattle.vgic_table.proofs.CoresLemmas.{own-tidy}
 use Rattle.vgic_table.proofs.LawLemmas.{holder}
 use Rattle.vm_model.specs.Cores.{place_of, virtual_core}
-use Rattle.vm_model.specs.Flat.{Flat, Step, flat_duty, flat_effect, flat_given, flat_guests, flat_ready, flat_step, flat_stepped, is_entered, is_event_unbuilt, is_on, runs}
-use Rattle.vm_model.specs.Duty.{done, is_not_built}
+use Rattle.vm_model.specs.Flat.{Flat, Step, flat_duty, flat_effect, flat_given, flat_guests, flat_ready, flat_step, flat_stepped, is_entered, is_on, runs}
+use Rattle.vm_model.specs.Duty.{done}
 use Rattle.vm_model.specs.Interrupts.{best_of}
 use Rattle.vm_model.specs.Project.{is_port_raised}
 use Rattle.vm_model.proofs.Lists.{placed_got}
@@ -34,19 +34,18 @@ use Rattle.hypervisor.specs.declared.event.Event.TheVariants as event
 use Rattle.hypervisor.specs.Hyp.{HypData, stands_for}
 use Rattle.hypervisor.specs.Seat.{IsSeatOf}
 use Rattle.hypervisor.specs.declared.seat.Seat.{Seat}
-use Rattle.hypervisor.specs.Taken.{IsAfter, IsEntered, IsGiven, IsLeft, IsRun, IsSame, IsSettled, IsSteppedIf, IsWaiting, guests_of, is_exit_unbuilt}
+use Rattle.hypervisor.specs.Taken.{IsAfter, IsEntered, IsGiven, IsLeft, IsRun, IsSame, IsSettled, IsSteppedIf}
 use Rattle.hypervisor.specs.Tidy.{Tidy}
 use Rattle.hypervisor.proofs.Carried.{its_core, lists_is, low, table}
-use Rattle.hypervisor.proofs.Composed.{effect_is, settled_flat, settled_left, settled_tidy, unbuilt_alike}
+use Rattle.hypervisor.proofs.Composed.{effect_is, settled_flat, settled_left, settled_tidy}
 use Rattle.hypervisor.proofs.Models.{given_is_there}
 use Rattle.hypervisor.proofs.Raised.{has_line, has_line-platform, lines_given-ports, lines_given-ppis, lines_given-quieted}
 use Rattle.hypervisor.proofs.Seats.{no_owner, seat_there}
 
 -- what an event is to the model, and to the board
-pub record IsModelled (cfg : ConfigData) (change : Change) (e : Event) (built : Bool) : Type 0 where
+pub record IsModelled (cfg : ConfigData) (change : Change) (e : Event) : Type 0 where
   pub tidy : Tidy cfg change.new change.after
   pub state : stands_for cfg change.new change.after ≡ flat_step cfg (stands_for cfg change.old change.before) (flat_event e)
-  pub built_is : built ≡ not (is_event_unbuilt cfg (stands_for cfg change.old change.before) (flat_event e))
   pub entered : change.after.entered
       ≡ change.before.entered + (if is_entered cfg (stands_for cfg change.old change.before) (flat_event e) then 1 else 0)
   pub spent : change.after.spent ≤ change.before.spent + 1
@@ -118,13 +117,13 @@ goes_on_ran Acknowledged lists on = refl
 goes_on_ran (Ended id) lists on = absurd (false≢true on)
 goes_on_ran (Leave esr far) lists on = absurd (false≢true on)
 
-module _ (cfg : ConfigData) (well_formed : IsWellFormed cfg) (fits : ConfigFits cfg) (change : Change) (built : Bool) where
+module _ (cfg : ConfigData) (well_formed : IsWellFormed cfg) (fits : ConfigFits cfg) (change : Change) where
   abbrev f : Flat
   f = stands_for cfg change.old change.before
 
   -- a core that runs
   module _ (seat : Seat) (at : IsSeatOf cfg seat.core seat) (count : ℕ) (on : runs cfg f seat.core ≡ true)
-      (run : IsRun cfg change seat.core count built) where
+      (run : IsRun cfg change seat.core count) where
     abbrev core : ℕ
     core = seat.core
 
@@ -164,14 +163,6 @@ module _ (cfg : ConfigData) (well_formed : IsWellFormed cfg) (fits : ConfigFits 
     state =
         settled_flat cfg well_formed fits hyp m entry.tidy seat at count entry.listed change.new change.after run.ended exit_is settled
         ∙ ap (λ g. flat_stepped cfg g core count) entry.state ∙ sym (ap (λ b. if b then flat_stepped cfg ready core count else f) on)
-
-    built_is : built ≡ not (is_event_unbuilt cfg f (Step core count))
-    built_is =
-        run.built_is ∙ ap (λ h. not (is_exit_unbuilt cfg core run.ended (guests_of cfg h run.board))) entry.new
-        ∙ ap (λ b. not (is_exit_unbuilt cfg core run.ended (guests_of cfg hyp b))) entry.after
-        ∙ ap not (unbuilt_alike cfg well_formed fits hyp m entry.tidy seat at count entry.listed run.ended exit_is)
-        ∙ ap (λ g. not (is_not_built (flat_duty cfg g core count))) entry.state
-        ∙ sym (ap (λ b. not (b && is_not_built (flat_duty cfg ready core count))) on)
 
     -- a step at which the hypervisor has nothing to do is the board's
     same_of : run.ended ≡ exit.Ran → IsSame (record { old = hyp; new = change.new; before = carried_out m core effect; after = change.after })
@@ -238,12 +229,11 @@ module _ (cfg : ConfigData) (well_formed : IsWellFormed cfg) (fits : ConfigFits 
             (subst (λ b. b < no_rank) best_is some) in
             found_any (holds (id_of (best_listed lists))) lists there.list there.found
 
-    pub run_modelled : IsModelled cfg change (event.Step core count) built
+    pub run_modelled : IsModelled cfg change (event.Step core count)
     run_modelled = record {
       tidy =
           settled_tidy cfg well_formed fits hyp m entry.tidy seat at count entry.listed change.new change.after run.ended exit_is settled;
       state = state;
-      built_is = built_is;
       entered =
           ap (λ (b : Machine). b.entered) left.state ∙ ap (λ n. n + 1) entry.entered
           ∙ sym (ap (λ b. change.before.entered + (if b then 1 else 0)) on);
@@ -255,38 +245,36 @@ module _ (cfg : ConfigData) (well_formed : IsWellFormed cfg) (fits : ConfigFits 
     }
 
   -- a core that doesn't
-  waiting : (core count : ℕ) → runs cfg f core ≡ false → IsWaiting change built → Tidy cfg change.old change.before
-      → IsModelled cfg change (event.Step core count) built
+  waiting : (core count : ℕ) → runs cfg f core ≡ false → IsSame change → Tidy cfg change.old change.before
+      → IsModelled cfg change (event.Step core count)
   waiting core count off wait tidy = record {
     tidy =
-        subst (λ h. Tidy cfg h change.after) (sym wait.same.hyp) (subst (Tidy cfg change.old) (sym wait.same.board) tidy);
+        subst (λ h. Tidy cfg h change.after) (sym wait.hyp) (subst (Tidy cfg change.old) (sym wait.board) tidy);
     state =
-        ap (λ h. stands_for cfg h change.after) wait.same.hyp ∙ ap (stands_for cfg change.old) wait.same.board
+        ap (λ h. stands_for cfg h change.after) wait.hyp ∙ ap (stands_for cfg change.old) wait.board
         ∙ sym (ap (λ b. if b then flat_stepped cfg (flat_ready cfg f core count) core count else f) off);
-    built_is = wait.built_is ∙ sym (ap (λ b. not (b && is_not_built (flat_duty cfg (flat_ready cfg f core count) core count))) off);
     entered =
         let none : change.before.entered ≡ change.before.entered + 0 = omega arith in
-        ap (λ (b : Machine). b.entered) wait.same.board ∙ none
+        ap (λ (b : Machine). b.entered) wait.board ∙ none
         ∙ sym (ap (λ b. change.before.entered + (if b then 1 else 0)) off);
-    spent = let now = ap (λ (b : Machine). b.spent) wait.same.board in omega (arith, now);
-    shape = ap (λ (b : Machine). b.shape) wait.same.board;
-    entries = ap (λ (b : Machine). b.entries) wait.same.board;
+    spent = let now = ap (λ (b : Machine). b.spent) wait.board in omega (arith, now);
+    shape = ap (λ (b : Machine). b.shape) wait.board;
+    entries = ap (λ (b : Machine). b.entries) wait.board;
     quiet =
-        (λ is. absurd (false≢true (sym off ∙ is.runs)), λ _. record { hyp = wait.same.hyp; board = wait.same.board });
+        (λ is. absurd (false≢true (sym off ∙ is.runs)), λ _. record { hyp = wait.hyp; board = wait.board });
     best = λ on _ _. absurd (false≢true (sym off ∙ on));
   }
 
   -- a byte for a port
-  given : (port byte : ℕ) → is_assigned cfg port ≡ true → IsGiven change port byte → built ≡ true → Tidy cfg change.old change.before
-      → IsModelled cfg change (event.Input port byte) built
-  given port byte assigned is all tidy = record {
+  given : (port byte : ℕ) → is_assigned cfg port ≡ true → IsGiven change port byte → Tidy cfg change.old change.before
+      → IsModelled cfg change (event.Input port byte)
+  given port byte assigned is tidy = record {
     tidy = subst (λ h. Tidy cfg h change.after) (sym is.hyp) (subst (Tidy cfg change.old) (sym is.board) after);
     state =
         ap (λ h. stands_for cfg h change.after) is.hyp ∙ ap (stands_for cfg change.old) is.board
         ∙ ap (λ ppis. with_lines (λ c. slice_index_or ppis c false) (is_port_raised (lines_given m.ports port m.lines).ports))
         (lines_given-ppis m.ports port m.lines)
         ∙ ap (with_lines f.timer_lines) (λ i other. lines_given-ports m.ports port m.lines has other i);
-    built_is = all;
     entered =
         let none : m.entered ≡ m.entered + 0 = omega arith in ap (λ (b : Machine). b.entered) is.board ∙ none;
     spent = let now = ap (λ (b : Machine). b.spent) is.board in omega (arith, now);
@@ -319,23 +307,23 @@ module _ (cfg : ConfigData) (well_formed : IsWellFormed cfg) (fits : ConfigFits 
       }
 
   -- every event
-  pub modelled : (e : Event) → Tidy cfg change.old change.before → IsPlaced cfg e → IsAfter cfg change e built → IsModelled cfg change e built
+  pub modelled : (e : Event) → Tidy cfg change.old change.before → IsPlaced cfg e → IsAfter cfg change e → IsModelled cfg change e
   modelled (event.Step core count) tidy placed after = by_run (runs cfg f core) refl after
     where
       owned : (some up : Bool) → (some && up) ≡ true → some ≡ true
       owned true up e = refl
       owned false up e = e
 
-      by_run : (on : Bool) → runs cfg f core ≡ on → IsSteppedIf on cfg change core count built → IsModelled cfg change (event.Step core count) built
+      by_run : (on : Bool) → runs cfg f core ≡ on → IsSteppedIf on cfg change core count → IsModelled cfg change (event.Step core count)
       by_run true on run =
           let seat = seated cfg core (owned (is_some (owner cfg core)) (is_on (slice_get change.old.powers core)) on) in
           seated_run seat.0 seat.1 seat.2 on run
         where
           seated_run : (seat : Seat) → seat.core ≡ core → IsSeatOf cfg core seat → runs cfg f core ≡ true
-              → IsRun cfg change core count built → IsModelled cfg change (event.Step core count) built
+              → IsRun cfg change core count → IsModelled cfg change (event.Step core count)
           seated_run seat same at on run =
-              subst (λ c. IsModelled cfg change (event.Step c count) built) same
+              subst (λ c. IsModelled cfg change (event.Step c count)) same
               (run_modelled seat (subst (λ c. IsSeatOf cfg c seat) (sym same) at) count (ap (runs cfg f) same ∙ on)
-              (subst (λ c. IsRun cfg change c count built) (sym same) run))
+              (subst (λ c. IsRun cfg change c count) (sym same) run))
       by_run false off wait = waiting core count off wait tidy
-  modelled (event.Input port byte) tidy placed after = given port byte placed after.0 after.1 tidy
+  modelled (event.Input port byte) tidy placed after = given port byte placed after tidy

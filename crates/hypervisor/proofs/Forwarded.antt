@@ -1,7 +1,7 @@
 -- The lines that are raised for a core are forwarded one after another, until none is left.
 use Rattle.std.proofs.Common.{◌≡◌, ℕ, ◌<◌, ◌==◌, Bool, true, false, ◌&&◌, ◌||◌, not, length, map, Option, Some, None, slice_get, refl, sym, ap, subst, ◌∙◌, arith}
 use Rattle.std.specs.Prelude.{IsTrue, if◌then◌else◌, is_some}
-use Rattle.std.proofs.lemmas.Bool.{eq-eqb, eqb-true}
+use Rattle.std.proofs.lemmas.Bool.{eqb-true}
 use Rattle.std.proofs.lemmas.Bool.Decides.{nat_tests}
 use Rattle.bao_types.specs.Shape.{ShapeData}
 use Rattle.bao_config.specs.Data.{ConfigData, VmData}
@@ -19,12 +19,10 @@ use Rattle.vgic_table.specs.Shape.{IsShaped}
 use Rattle.vgic_table.proofs.OthersLemmas.{others-shaped}
 use Rattle.vgic_table.proofs.PendedLemmas.{made_pending-at, pended-both, pended-none, pended-same}
 use Rattle.vgic_table.proofs.StateLemmas.{place-within}
-use Rattle.vm_model.specs.Cores.{is_place}
 use Rattle.vm_model.specs.Flat.{Flat, flat_forwarded, has_dev}
 use Rattle.vm_model.specs.Guests.{Tables, tables_of}
 use Rattle.vm_model.specs.Interrupts.{is_line_at, stands_at, virtual_number, with_table}
 use Rattle.vm_model.specs.Project.{is_port_raised, joined_tables, lists_of}
-use Rattle.vm_model.proofs.Lists.{first_by_place}
 use Rattle.hypervisor.specs.Change.{Change}
 use Rattle.hypervisor.specs.Hyp.{HypData, stands_for}
 use Rattle.hypervisor.specs.declared.seat.Seat.{Seat}
@@ -36,7 +34,7 @@ use Rattle.hypervisor.proofs.Held.{is_core}
 use Rattle.hypervisor.proofs.Moves.{line_bound}
 use Rattle.hypervisor.proofs.Raised.{AreLinesOf, after_ack-length, after_ack-quieted, is_timer_raised}
 use Rattle.hypervisor.proofs.RaisedTaken.{IsQuiet, IsTaken, has_core_at, line_taken, quiet_lines_of}
-use Rattle.hypervisor.proofs.Seats.{on_platform}
+use Rattle.hypervisor.proofs.Seats.{on_platform, owner_of_seat}
 
 -- a hypervisor and a board belong together still, where the parts are as before that a core's step or an interrupt leaves
 pub tidy_kept : (cfg : ConfigData) (old new : HypData) (before after : Machine) → Tidy cfg old before → after.fitted ≡ before.fitted
@@ -58,7 +56,7 @@ pub lines_are : (cfg : ConfigData) (hyp : HypData) (m : Machine) → Tidy cfg hy
 lines_are cfg hyp m tidy = tidy.port_lines ∙ ap (λ (s : ShapeData). map quiet_line s.ports) tidy.shape
 
 -- two changes of one VM's interrupts are a third
-with_table-twice : (v : ℕ) (second first both : Interrupts → Interrupts) (tables : Tables) → second (first (tables v)) ≡ both (tables v)
+pub with_table-twice : (v : ℕ) (second first both : Interrupts → Interrupts) (tables : Tables) → second (first (tables v)) ≡ both (tables v)
     → with_table (Some v) second (with_table (Some v) first tables) ≡ with_table (Some v) both tables
 with_table-twice v second first both tables same = λ i w. by_place w (v == w) refl i
   where
@@ -69,7 +67,7 @@ with_table-twice v second first both tables same = λ i w. by_place w (v == w) r
     by_place w false e = refl
 
 -- a change that leaves each VM's interrupts
-with_table-none : (v : ℕ) (change : Interrupts → Interrupts) (tables : Tables) → ((table : Interrupts) → change table ≡ table)
+pub with_table-none : (v : ℕ) (change : Interrupts → Interrupts) (tables : Tables) → ((table : Interrupts) → change table ≡ table)
     → with_table (Some v) change tables ≡ tables
 with_table-none v change tables none = λ i w. by_place w (v == w) i
   where
@@ -94,9 +92,7 @@ forwarded_by cfg place owned number core f =
 
 module _ (cfg : ConfigData) (seat : Seat) (is : IsSeatOf cfg seat.core seat) where
   owner_is : owner cfg seat.core ≡ Some is.is.vm
-  owner_is =
-      (first_by_place (has_core seat.core) cfg.vms seat.vm is.is.vm is.is.place
-      (ap (is_place seat.vm) is.place ∙ eq-eqb seat.vm seat.vm refl)).0
+  owner_is = owner_of_seat cfg seat is
 
   forwarded_is : (f : Flat) → flat_forwarded cfg f seat.core ≡ forwarded_by cfg (Some seat.vm) (Some is.is.vm) seat.own seat.core f
   forwarded_is f =

@@ -10,6 +10,8 @@ pub mod Moves
 pub mod Left
 pub mod Carried
 pub mod Settled
+pub mod Answered
+pub mod Targets
 pub mod Composed
 pub mod Events
 pub mod RaisedMasks

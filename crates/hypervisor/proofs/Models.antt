@@ -22,7 +22,7 @@ use Rattle.hypercalls.specs.declared.outcome.Outcome as calls
 use Rattle.hypercalls.specs.declared.outcome.Outcome.TheVariants as call
 use Rattle.hypercalls.specs.declared.power.Power.{Power}
 use Rattle.hypercalls.specs.declared.power.Power.TheVariants.{On, Off, Parked}
-use Rattle.vm_model.specs.Duty.{Duty, Nothing, Park, Call, NotBuilt, all_off, carried, cores_of, done, with_answer}
+use Rattle.vm_model.specs.Duty.{Duty, Nothing, Park, Call, Emulate, Send, all_off, carried, cores_of, done, with_answer}
 use Rattle.vm_model.specs.Guests.{Guests}
 use Rattle.hypervisor.specs.Hyp.{HypData}
 use Rattle.hypervisor.specs.Packed.{ArePacked}
@@ -100,4 +100,5 @@ module _ (cfg : ConfigData) (core : ℕ) (guests : Guests) where
   done_length Nothing = refl
   done_length (Park esr far) = length-set guests.powers core (Parked esr far)
   done_length (Call v smc outcome) = carried_length v (cores_of (slice_get cfg.vms v)) smc (answer_of outcome) outcome
-  done_length NotBuilt = refl
+  done_length (Emulate v access) = refl
+  done_length (Send v own value) = refl

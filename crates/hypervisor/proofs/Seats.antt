@@ -86,9 +86,15 @@ module _ (cfg : ConfigData) (core v : ℕ) (there : place_of cfg core ≡ Some v
       virtual_is : virtual_core vm core ≡ Some (0 + place.0)
       virtual_is = ap (λ (x : VmData). virtual_core x core) (sym same) ∙ place.1
 
+-- the VM of a core's seat has the core
+pub owner_of_seat : (cfg : ConfigData) (seat : Seat) (is : IsSeatOf cfg seat.core seat) → owner cfg seat.core ≡ Some is.is.vm
+owner_of_seat cfg seat is =
+    (first_by_place (has_core seat.core) cfg.vms seat.vm is.is.vm is.is.place
+    (ap (is_place seat.vm) is.place ∙ eq-eqb seat.vm seat.vm refl)).0
+
 -- a seat of a hypervisor and a board that belong to the configuration
 module _ (cfg : ConfigData) (hyp : HypData) (m : Machine) (well_formed : IsWellFormed cfg) (tidy : Tidy cfg hyp m) (seat : Seat) (is : IsSeat cfg seat) where
-  low_vm : seat.vm < length cfg.vms
+  pub low_vm : seat.vm < length cfg.vms
   low_vm = slice_get_within cfg.vms seat.vm is.vm is.place
 
   low_own : seat.own < length is.vm.cores
@@ -114,16 +120,18 @@ module _ (cfg : ConfigData) (hyp : HypData) (m : Machine) (well_formed : IsWellF
   pub has_table : seat.vm < length hyp.tables
   has_table = table_there cfg hyp.tables seat.vm tidy.held.counts low_vm
 
-  pub has_own : seat.own < (tables_of hyp.tables seat.vm).cores
-  has_own =
-      let count : (tables_of hyp.tables seat.vm).cores ≡ length is.vm.cores =
-      sym (counted hyp.tables seat.vm) ∙ ap (λ ns. get_or ns seat.vm 0) tidy.held.counts ∙ count_at cfg.vms seat.vm is.place in
-      let low = low_own in omega (arith, count, low)
+  -- the table of its VM is for the VM's cores
+  pub table_cores : (tables_of hyp.tables seat.vm).cores ≡ length is.vm.cores
+  table_cores =
+      sym (counted hyp.tables seat.vm) ∙ ap (λ ns. get_or ns seat.vm 0) tidy.held.counts ∙ count_at cfg.vms seat.vm is.place
     where
       count_at : (vms : List VmData) (v : ℕ) → slice_get vms v ≡ Some is.vm → get_or (map (λ (vm : VmData). length vm.cores) vms) v 0 ≡ length is.vm.cores
       count_at [] v e = cc
       count_at (vm ∷ vms) zero e = let same : vm ≡ is.vm = cc in ap (λ (x : VmData). length x.cores) same
       count_at (vm ∷ vms) (suc v) e = count_at vms v e
+
+  pub has_own : seat.own < (tables_of hyp.tables seat.vm).cores
+  has_own = let count = table_cores in let low = low_own in omega (arith, count, low)
 
 -- the first core of a VM has all ids that are the VM's, and its own
 pub first_holds : (own id : ℕ) → own ≡ 0 → own ≡ holder_of 0 id

@@ -1,8 +1,8 @@
 -- What follows how a step ended: a call is answered and carried out, a core is parked, or an interrupt ends.
 use Rattle.std.proofs.Common.{◌≡◌, ℕ, Bool, true, false, List, refl, sym, ap, subst, ◌∙◌}
-use Rattle.std.specs.Prelude.{◌&&◌, not, if◌then◌else◌, Option, Some, is_some, slice_get, slice_set}
+use Rattle.std.specs.Prelude.{◌&&◌, if◌then◌else◌, Option, None, Some, is_some, slice_get}
 use Rattle.bao_types.specs.ListReg.{ListRegData}
-use Rattle.bao_config.specs.Data.{ConfigData}
+use Rattle.bao_config.specs.Data.{ConfigData, VmData}
 use Rattle.bao_config.specs.Fits.{ConfigFits}
 use Rattle.bao_wellformed.specs.Map.{owner}
 use Rattle.bao_wellformed.specs.WellFormed.{IsWellFormed}
@@ -13,21 +13,22 @@ use Rattle.board.specs.declared.board.Exit.{Exit}
 use Rattle.board.specs.declared.board.Exit.TheVariants as exit
 use Rattle.hypercalls.specs.Calls.{answer_of}
 use Rattle.hypercalls.specs.declared.outcome.Outcome as calls
-use Rattle.hypercalls.specs.declared.power.Power.TheVariants.{Parked}
 use Rattle.vgic_iface.specs.Interface.{is_unlisted}
 use Rattle.vm_model.specs.Cores.{place_of}
-use Rattle.vm_model.specs.Duty.{Duty, Park, NotBuilt, answered, call_duty, call_outcome, carried, cores_of, done, duty_of, is_call, is_not_built, is_smc}
+use Rattle.vm_model.specs.Duty.{Duty, Park, Emulate, Send, abort_duty, answered, call_duty, call_outcome, carried, cores_of, done, duty_of, is_call, is_smc, send_duty}
 use Rattle.vm_model.specs.Flat.{is_on, runs}
 use Rattle.vm_model.specs.Guests.{Guests}
-use Rattle.vm_model.specs.Park.{parks}
+use Rattle.vm_model.specs.Frames.{FrameAccess, frame_access}
+use Rattle.vm_model.specs.Interrupts.{virtual_number}
+use Rattle.vm_model.specs.Sent.{is_send, sent_value}
 use Rattle.hypervisor.specs.Change.{Change, IsListed}
 use Rattle.hypervisor.specs.Hyp.{HypData, stands_for}
 use Rattle.hypervisor.specs.Seat.{IsSeatOf}
 use Rattle.hypervisor.specs.declared.seat.Seat.{Seat}
-use Rattle.hypervisor.specs.Taken.{IsEndOfId, IsEntered, IsLeft, IsRun, IsSettled, IsStepped, IsSteppedIf, IsWaiting, ended_guests, guests_of, is_exit_unbuilt}
+use Rattle.hypervisor.specs.Taken.{IsEndOfId, IsEntered, IsLeft, IsRun, IsSame, IsSettled, IsStepped, IsSteppedIf, ended_guests, guests_of}
 use Rattle.hypervisor.specs.Tidy.{Tidy}
 use Rattle.hypervisor.proofs.Carried.{carried_tidy, unlisted_low}
-use Rattle.hypervisor.proofs.Left.{left_powers}
+use Rattle.hypervisor.proofs.Seats.{owner_of_seat}
 
 -- a call is carried out once its core has the answer
 module _ (cfg : ConfigData) (old new : HypData) (before between after : Machine) (v core esr : ℕ) where
@@ -66,55 +67,48 @@ module _ (cfg : ConfigData) (old new : HypData) (before between after : Machine)
 
 -- what an exception that goes to EL2 leaves to do
 module _ (cfg : ConfigData) (core esr far : ℕ) (guests : Guests) where
-  duty_call : (v : ℕ) → is_call esr ≡ true → place_of cfg core ≡ Some v
+  abbrev called : Duty
+  called = call_duty cfg (place_of cfg core) core esr guests
+
+  abbrev sends : Duty
+  sends = send_duty cfg (place_of cfg core) core esr guests
+
+  abbrev aborts : Duty
+  aborts = abort_duty (place_of cfg core) (frame_access cfg (owner cfg core) esr far) esr far
+
+  pub duty_call : (v : ℕ) → is_call esr ≡ true → place_of cfg core ≡ Some v
       → duty_of cfg core (Leave esr far) guests ≡ call_duty cfg (Some v) core esr guests
-  duty_call v calls place =
-      ap
-      (λ b. if b then call_duty cfg (place_of cfg core) core esr guests
-      else (if parks cfg core esr far then Park esr far else NotBuilt)) calls
-      ∙ ap (λ p. call_duty cfg p core esr guests) place
+  duty_call v call place =
+      ap (λ b. if b then called else if is_send esr then sends else aborts) call ∙ ap (λ p. call_duty cfg p core esr guests) place
 
-  duty_other : is_call esr ≡ false
-      → duty_of cfg core (Leave esr far) guests ≡ (if parks cfg core esr far then Park esr far else NotBuilt)
-  duty_other calls =
-      ap
-      (λ b. if b then call_duty cfg (place_of cfg core) core esr guests
-      else (if parks cfg core esr far then Park esr far else NotBuilt)) calls
+  pub duty_send : (v own : ℕ) → is_call esr ≡ false → is_send esr ≡ true → place_of cfg core ≡ Some v → virtual_number cfg core ≡ own
+      → duty_of cfg core (Leave esr far) guests ≡ Send v own (sent_value (core_at guests.cores core) esr)
+  duty_send v own call send place number =
+      ap (λ b. if b then called else if is_send esr then sends else aborts) call ∙ ap (λ b. if b then sends else aborts) send
+      ∙ ap (λ p. send_duty cfg p core esr guests) place ∙ ap (λ n. Send v n (sent_value (core_at guests.cores core) esr)) number
 
-  pub built_call : (v : ℕ) → is_call esr ≡ true → place_of cfg core ≡ Some v
-      → true ≡ not (is_exit_unbuilt cfg core (exit.Sync esr far) guests)
-  built_call v calls place = sym (ap (λ (d : Duty). not (is_not_built d)) (duty_call v calls place))
+  pub duty_abort : is_call esr ≡ false → is_send esr ≡ false → duty_of cfg core (Leave esr far) guests ≡ aborts
+  duty_abort call send =
+      ap (λ b. if b then called else if is_send esr then sends else aborts) call ∙ ap (λ b. if b then sends else aborts) send
 
-  pub built_other : is_call esr ≡ false → parks cfg core esr far ≡ not (is_exit_unbuilt cfg core (exit.Sync esr far) guests)
-  built_other calls = by_test (parks cfg core esr far) ∙ sym (ap (λ (d : Duty). not (is_not_built d)) (duty_other calls))
-    where
-      by_test : (b : Bool) → b ≡ not (is_not_built (if b then Park esr far else NotBuilt))
-      by_test true = refl
-      by_test false = refl
+-- what an abort leaves to do, of a core that has a seat
+module _ (cfg : ConfigData) (seat : Seat) (is : IsSeatOf cfg seat.core seat) (vm : VmData) (place : slice_get cfg.vms seat.vm ≡ Some vm)
+    (esr far : ℕ) where
+  abbrev aborted : Duty
+  aborted = abort_duty (place_of cfg seat.core) (frame_access cfg (owner cfg seat.core) esr far) esr far
 
-module _ (cfg : ConfigData) (old new : HypData) (before : Machine) (core esr far : ℕ) where
-  pub settled_call : (after : Machine) (v : ℕ) → is_call esr ≡ true → place_of cfg core ≡ Some v
-      → IsLeft cfg (record { old = old; new = new; before = before; after = after })
-      (done cfg core (call_duty cfg (Some v) core esr (guests_of cfg old before)) (guests_of cfg old before))
-      → IsSettled cfg core (exit.Sync esr far) (record { old = old; new = new; before = before; after = after })
-  settled_call after v calls place left =
-      subst
-      (λ d. IsLeft cfg (record { old = old; new = new; before = before; after = after }) (done cfg core d (guests_of cfg old before)))
-      (sym (duty_call cfg core esr far (guests_of cfg old before) v calls place)) left
+  abort_of : (answered : Option FrameAccess) → answered ≡ frame_access cfg (Some vm) esr far
+      → abort_duty (Some seat.vm) answered esr far ≡ aborted
+  abort_of answered same =
+      ap (λ a. abort_duty (Some seat.vm) a esr far) same
+      ∙ ap (λ o. abort_duty (Some seat.vm) (frame_access cfg o esr far) esr far) (sym place ∙ is.is.place ∙ sym (owner_of_seat cfg seat is))
+      ∙ ap (λ p. abort_duty p (frame_access cfg (owner cfg seat.core) esr far) esr far) (sym is.place)
 
-  pub settled_other : Tidy cfg old before → is_call esr ≡ false
-      → new.powers ≡ (if parks cfg core esr far then slice_set old.powers core (Parked esr far) else old.powers) → new.tables ≡ old.tables
-      → IsSettled cfg core (exit.Sync esr far) (record { old = old; new = new; before = before; after = before })
-  settled_other tidy calls powers tables =
-      subst
-      (λ d. IsLeft cfg (record { old = old; new = new; before = before; after = before }) (done cfg core d (guests_of cfg old before)))
-      (sym (duty_other cfg core esr far (guests_of cfg old before) calls)) (by_test (parks cfg core esr far) powers)
-    where
-      by_test : (b : Bool) → new.powers ≡ (if b then slice_set old.powers core (Parked esr far) else old.powers)
-          → IsLeft cfg (record { old = old; new = new; before = before; after = before })
-          (done cfg core (if b then Park esr far else NotBuilt) (guests_of cfg old before))
-      by_test true powers = left_powers cfg old new before (slice_set old.powers core (Parked esr far)) tidy powers tables
-      by_test false powers = left_powers cfg old new before old.powers tidy powers tables
+  pub abort_answered : (access : FrameAccess) → Some access ≡ frame_access cfg (Some vm) esr far → Emulate seat.vm access ≡ aborted
+  abort_answered access same = abort_of (Some access) same
+
+  pub abort_parked : None ≡ frame_access cfg (Some vm) esr far → Park esr far ≡ aborted
+  abort_parked same = abort_of None same
 
 -- a core has one seat alone
 pub settled_end : (cfg : ConfigData) (core id : ℕ) (change : Change) (seat : Seat) → IsSeatOf cfg core seat
@@ -129,12 +123,12 @@ settled_end cfg core id change seat is left other at =
 
 -- a core that has no VM, or isn't on, waits
 pub waits : (cfg : ConfigData) (hyp : HypData) (m : Machine) (core count : ℕ) → runs cfg (stands_for cfg hyp m) core ≡ false
-    → IsStepped cfg (record { old = hyp; new = hyp; before = m; after = m }) core count true
+    → IsStepped cfg (record { old = hyp; new = hyp; before = m; after = m }) core count
 waits cfg hyp m core count off =
-    subst (λ b. IsSteppedIf b cfg (record { old = hyp; new = hyp; before = m; after = m }) core count true) (sym off) same
+    subst (λ b. IsSteppedIf b cfg (record { old = hyp; new = hyp; before = m; after = m }) core count) (sym off) same
   where
-    same : IsWaiting (record { old = hyp; new = hyp; before = m; after = m }) true
-    same = record { same = record { hyp = refl; board = refl }; built_is = refl }
+    same : IsSame (record { old = hyp; new = hyp; before = m; after = m })
+    same = record { hyp = refl; board = refl }
 
 pub not_owned : (cfg : ConfigData) (hyp : HypData) (m : Machine) (core : ℕ) → is_some (owner cfg core) ≡ false
     → runs cfg (stands_for cfg hyp m) core ≡ false
@@ -184,14 +178,13 @@ module _ (cfg : ConfigData) (change : Change) (core count : ℕ) (ended : Exit) 
       (subst (λ c. IsListed cfg entered.hyp entered.board c) (sym here) entered.listed))))
 
 -- a core that runs takes a step, and what follows it
-pub runs_on : (cfg : ConfigData) (old mid new : HypData) (before between after : Machine) (core count : ℕ) (ended : Exit) (built : Bool)
+pub runs_on : (cfg : ConfigData) (old mid new : HypData) (before between after : Machine) (core count : ℕ) (ended : Exit)
     → runs cfg (stands_for cfg old before) core ≡ true
     → IsEntered cfg (record { old = old; new = mid; before = before; after = between }) core count ended
     → IsSettled cfg core ended (record { old = mid; new = new; before = between; after = after })
-    → built ≡ not (is_exit_unbuilt cfg core ended (guests_of cfg mid between))
-    → IsStepped cfg (record { old = old; new = new; before = before; after = after }) core count built
-runs_on cfg old mid new before between after core count ended built on entered settled built_is =
-    subst (λ b. IsSteppedIf b cfg (record { old = old; new = new; before = before; after = after }) core count built) (sym on) run
+    → IsStepped cfg (record { old = old; new = new; before = before; after = after }) core count
+runs_on cfg old mid new before between after core count ended on entered settled =
+    subst (λ b. IsSteppedIf b cfg (record { old = old; new = new; before = before; after = after }) core count) (sym on) run
   where
-    run : IsRun cfg (record { old = old; new = new; before = before; after = after }) core count built
-    run = record { hyp = mid; board = between; ended = ended; entered = entered; settled = settled; built_is = built_is }
+    run : IsRun cfg (record { old = old; new = new; before = before; after = after }) core count
+    run = record { hyp = mid; board = between; ended = ended; entered = entered; settled = settled }

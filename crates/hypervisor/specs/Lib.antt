@@ -2,6 +2,7 @@ pub mod Shape
 pub mod Packed
 pub mod Event
 pub mod Hyp
+pub mod Access
 pub mod Seat
 pub mod Again
 pub mod Tidy

@@ -1,5 +1,5 @@
 -- For private clauses: what an event does on the machine, and to what the hypervisor keeps.
-use Rattle.std.specs.Prelude.{◌≡◌, ℕ, ◌<◌, not, Bool, true, false, List, Option, None, Some, slice_get}
+use Rattle.std.specs.Prelude.{◌≡◌, ℕ, ◌<◌, Bool, true, false, List, Option, None, Some, slice_get}
 use Rattle.bao_types.specs.ListReg.{ListRegData}
 use Rattle.a64_state.specs.Core.{CoreData}
 use Rattle.bao_config.specs.Data.{ConfigData}
@@ -11,7 +11,7 @@ use Rattle.board.specs.Machine.{Machine, carried_out, exit_after, machine_effect
 use Rattle.vgic_iface.specs.Rank.{id_end}
 use Rattle.vgic_table.specs.Interrupts.{Interrupts}
 use Rattle.vgic_table.specs.Changes.{made_inactive, made_pending}
-use Rattle.vm_model.specs.Duty.{done, duty_of, is_not_built}
+use Rattle.vm_model.specs.Duty.{done, duty_of}
 use Rattle.vm_model.specs.Flat.{flat_forwarded, flat_ready, runs}
 use Rattle.vm_model.specs.Guests.{Guests, tables_of}
 use Rattle.vm_model.specs.Interrupts.{with_table}
@@ -109,40 +109,29 @@ IsSettled cfg core (exit.Sync esr far) change =
 IsSettled cfg core (exit.End id) change =
     (seat : Seat) → IsSeatOf cfg core seat → IsLeft cfg change (ended_guests seat.vm seat.own id (guests_of cfg change.old change.before))
 
--- and isn't built
-abbrev pub is_exit_unbuilt : ConfigData → ℕ → Exit → Guests → Bool
-is_exit_unbuilt cfg core exit.Ran guests = false
-is_exit_unbuilt cfg core exit.Irq guests = false
-is_exit_unbuilt cfg core (exit.Sync esr far) guests = is_not_built (duty_of cfg core (Leave esr far) guests)
-is_exit_unbuilt cfg core (exit.End id) guests = false
-
--- A core that runs has taken a step and what follows it; one that doesn't run has done nothing. `built` is what is answered.
-pub record IsRun (cfg : ConfigData) (change : Change) (core count : ℕ) (built : Bool) : Type 0 where
+-- a core that runs has taken a step and what follows it
+pub record IsRun (cfg : ConfigData) (change : Change) (core count : ℕ) : Type 0 where
   pub hyp : HypData
   pub board : Machine
   pub ended : Exit
   pub entered : IsEntered cfg (record change { new = hyp; after = board }) core count ended
   pub settled : IsSettled cfg core ended (record change { old = hyp; before = board })
-  pub built_is : built ≡ not (is_exit_unbuilt cfg core ended (guests_of cfg hyp board))
 
-pub record IsWaiting (change : Change) (built : Bool) : Type 0 where
-  pub same : IsSame change
-  pub built_is : built ≡ true
+-- and one that doesn't run has done nothing
+abbrev pub IsSteppedIf : Bool → ConfigData → Change → ℕ → ℕ → Type 0
+IsSteppedIf true cfg change core count = IsRun cfg change core count
+IsSteppedIf false cfg change core count = IsSame change
 
-abbrev pub IsSteppedIf : Bool → ConfigData → Change → ℕ → ℕ → Bool → Type 0
-IsSteppedIf true cfg change core count built = IsRun cfg change core count built
-IsSteppedIf false cfg change core count built = IsWaiting change built
-
-abbrev pub IsStepped : ConfigData → Change → ℕ → ℕ → Bool → Type 0
-IsStepped cfg change core count built =
-    IsSteppedIf (runs cfg (stands_for cfg change.old change.before) core) cfg change core count built
+abbrev pub IsStepped : ConfigData → Change → ℕ → ℕ → Type 0
+IsStepped cfg change core count =
+    IsSteppedIf (runs cfg (stands_for cfg change.old change.before) core) cfg change core count
 
 -- a port was given a byte
 pub record IsGiven (change : Change) (port byte : ℕ) : Type 0 where
   pub hyp : change.new ≡ change.old
   pub board : change.after ≡ port_given change.before port byte
 
--- what an event left, and what is answered
-abbrev pub IsAfter : ConfigData → Change → Event → Bool → Type 0
-IsAfter cfg change (Step core count) built = IsStepped cfg change core count built
-IsAfter cfg change (Input port byte) built = IsGiven change port byte × (built ≡ true)
+-- what an event left
+abbrev pub IsAfter : ConfigData → Change → Event → Type 0
+IsAfter cfg change (Step core count) = IsStepped cfg change core count
+IsAfter cfg change (Input port byte) = IsGiven change port byte

@@ -1,5 +1,5 @@
 //! What the hypervisor keeps, and what it does at an event.
-ghost use Rattle.std.specs.Prelude.{◌≡◌, ◌+◌, ◌<◌, ◌≤◌, ◌&&◌, not, true, is_some, length, slice_get, slice_index, slice_index_or, slice_set, if◌then◌else◌, map, ℕ, Some};
+ghost use Rattle.std.specs.Prelude.{◌≡◌, ◌+◌, ◌<◌, ◌≤◌, true, length, slice_get, slice_index, slice_set, if◌then◌else◌, ℕ, Some};
 ghost use Rattle.bao_config.specs.Config.{config_data};
 ghost use Rattle.bao_config.specs.Data.{vm_data};
 ghost use Rattle.bao_wellformed.specs.Checked.{checked_data};
@@ -8,25 +8,26 @@ ghost use Rattle.bao_wellformed.specs.WellFormed.{IsWellFormed};
 ghost use Rattle.board.specs.Machine.{core_at, lists_at, restarted, with_core};
 ghost use Rattle.hypercalls.specs.Laws.{IsLawful};
 ghost use Rattle.shared_windows.specs.Windows.{irq_of, is_member};
-ghost use Rattle.vgic_table.specs.Interrupts.{quiet_interrupts};
 ghost use Rattle.vgic_table.specs.Registers.{joined};
 ghost use Rattle.vm_model.specs.Boot.{boot_power, boot_powers};
-ghost use Rattle.vm_model.specs.Duty.{all_off, answered, arguments, call_duty, call_outcome, carried, cores_of, done, pended, powers_of, rung};
+ghost use Rattle.vm_model.specs.Duty.{abort_duty, all_off, answered, arguments, call_duty, call_outcome, carried, cores_of, done, duty_of, pended, powers_of, rung};
 ghost use Rattle.vm_model.specs.Interrupts.{with_table};
-ghost use Rattle.vm_model.specs.Flat.{flat_step, is_entered, is_event_unbuilt, is_on};
+ghost use Rattle.vm_model.specs.Flat.{flat_step, is_entered, is_on};
 ghost use Rattle.vm_model.specs.Guests.{tables_of};
 ghost use Rattle.hypervisor.specs.Change.{IsBestKept, IsLeftToBoard};
-ghost use Rattle.hypervisor.specs.Event.{flat_event, IsOnBoard, IsPlaced};
+ghost use Rattle.hypervisor.specs.Event.{flat_event, IsPlaced};
 ghost use Rattle.hypervisor.specs.Hyp.{boot_tables, power_of, stands_for};
 ghost use Rattle.hypervisor.specs.Tidy.{Tidy};
 ghost use Rattle.hypervisor.specs.Seat.{IsSeat, IsSeatOf};
-ghost use Rattle.hypervisor.specs.Taken.{guests_of, is_exit_unbuilt, IsAfter, IsEndOfId, IsEntered, IsLeft, IsSettled, IsStepped};
-ghost use Rattle.vm_model.specs.Park.{parks};
+ghost use Rattle.hypervisor.specs.Taken.{guests_of, IsAfter, IsEndOfId, IsEntered, IsLeft, IsSettled, IsStepped};
+ghost use Rattle.vm_model.specs.Cores.{place_of};
+ghost use Rattle.vm_model.specs.Frames.{frame_access};
+ghost use Rattle.board.specs.Attempt.{Leave};
 
 use crate::event::Event;
 use crate::owners::{owner, virtual_core, vm_at};
-use crate::park::{immediate, is_call, is_smc, parks};
 use crate::seat::{Seat, seat_at, seat_of};
+use crate::syndrome::{frame_access, immediate, is_call, is_send, is_smc};
 use arrayvec::ArrayVec;
 use bao_config::{Config, Vm};
 use bao_wellformed::{Checked, has_core};
@@ -89,17 +90,14 @@ impl Hyp {
         self.powers.as_slice().get(usize::from(core)).copied()
     }
 
-    /// Takes an event, which is a step of the model on the machine for which hypervisor and board stand. It answers whether
-    /// all of it is built.
-    pub fn event<B: Board>(&mut self, checked: &Checked, board: &mut B, event: &Event) -> bool
+    /// Takes an event, which is a step of the model on the machine for which hypervisor and board stand.
+    pub fn event<B: Board>(&mut self, checked: &Checked, board: &mut B, event: &Event)
         requires tidy { Tidy (checked_data checked.now) self.old (B.state board.old) }
         requires placed { IsPlaced (checked_data checked.now) event.now }
         requires spent { (B.state board.old).spent < (B.state board.old).shape.events }
         ensures tidy { Tidy (checked_data checked.now) self.new (B.state board.new) }
         ensures state { let f = stands_for (checked_data checked.now) self.old (B.state board.old) in
             stands_for (checked_data checked.now) self.new (B.state board.new) ≡ flat_step (checked_data checked.now) f (flat_event event.now) }
-        ensures built { let f = stands_for (checked_data checked.now) self.old (B.state board.old) in
-            result ≡ not (is_event_unbuilt (checked_data checked.now) f (flat_event event.now)) }
         ensures entered { let f = stands_for (checked_data checked.now) self.old (B.state board.old) in
             (B.state board.new).entered
             ≡ (B.state board.old).entered + (if is_entered (checked_data checked.now) f (flat_event event.now) then 1 else 0) }
@@ -111,44 +109,41 @@ impl Hyp {
         ensures best { IsBestKept (checked_data checked.now)
             (record { old = self.old; new = self.new; before = B.state board.old; after = B.state board.new }) event.now }
     {
-        self.take(checked.config(), board, event)
+        self.take(checked.config(), board, event);
     }
 
     /// What an event does on the machine, and to what the hypervisor keeps.
-    fn take<B: Board>(&mut self, config: &Config, board: &mut B, event: &Event) -> bool
+    fn take<B: Board>(&mut self, config: &Config, board: &mut B, event: &Event)
         requires well_formed { IsWellFormed (config_data config.now) }
         requires tidy { Tidy (config_data config.now) self.old (B.state board.old) }
         requires placed { IsPlaced (config_data config.now) event.now }
         requires spent { (B.state board.old).spent < (B.state board.old).shape.events }
         ensures { IsAfter (config_data config.now)
-            (record { old = self.old; new = self.new; before = B.state board.old; after = B.state board.new }) event.now result }
+            (record { old = self.old; new = self.new; before = B.state board.old; after = B.state board.new }) event.now }
     {
         match *event {
             Event::Step { core, count } => self.step(config, board, core, count),
-            Event::Input { port, byte } => {
-                board.port_input(port, byte);
-                true
-            }
+            Event::Input { port, byte } => board.port_input(port, byte),
         }
     }
 
-    /// Lets a core take a step at a count, if it runs, and answers whether that is built. Any other core does nothing.
-    fn step<B: Board>(&mut self, config: &Config, board: &mut B, core: u8, count: u64) -> bool
+    /// Lets a core take a step at a count, if it runs. Any other core does nothing.
+    fn step<B: Board>(&mut self, config: &Config, board: &mut B, core: u8, count: u64)
         requires well_formed { IsWellFormed (config_data config.now) }
         requires tidy { Tidy (config_data config.now) self.old (B.state board.old) }
         requires core { core < length (config_data config.now).platform.cores }
         requires spent { (B.state board.old).spent < (B.state board.old).shape.events }
         ensures after { IsStepped (config_data config.now)
-            (record { old = self.old; new = self.new; before = B.state board.old; after = B.state board.new }) core count result }
+            (record { old = self.old; new = self.new; before = B.state board.old; after = B.state board.new }) core count }
     {
         let Some(seat) = seat_of(config, core) else {
-            return true;
+            return;
         };
         if !self.is_on(core) {
-            return true;
+            return;
         }
         let exit = self.enter(config, board, seat, count);
-        self.settle(config, board, seat, exit)
+        self.settle(config, board, seat, exit);
     }
 
     /// Lets a core that runs take a step at a count. The lines that are raised for it are forwarded first, and its best
@@ -171,44 +166,57 @@ impl Hyp {
         board.step(seat.core, count)
     }
 
-    /// Does what follows how a core's step ended, and answers whether that is built.
-    fn settle<B: Board>(&mut self, config: &Config, board: &mut B, seat: Seat, exit: Exit) -> bool
+    /// Does what follows how a core's step ended.
+    fn settle<B: Board>(&mut self, config: &Config, board: &mut B, seat: Seat, exit: Exit)
         requires well_formed { IsWellFormed (config_data config.now) }
         requires tidy { Tidy (config_data config.now) self.old (B.state board.old) }
         requires seat { IsSeatOf (config_data config.now) seat.core seat }
         requires id { IsEndOfId exit }
-        ensures settled { IsSettled (config_data config.now) seat.core exit
+        ensures { IsSettled (config_data config.now) seat.core exit
             (record { old = self.old; new = self.new; before = B.state board.old; after = B.state board.new }) }
-        ensures built { result ≡ not (is_exit_unbuilt (config_data config.now) seat.core exit
-            (guests_of (config_data config.now) self.old (B.state board.old))) }
     {
         match exit {
             // A step ends by a line only where one is raised, and none is left.
-            Exit::Ran | Exit::Irq => true,
-            Exit::End { id } => {
-                self.end(config, board, seat, id);
-                true
-            }
-            Exit::Sync { esr, .. } if is_call(esr) => {
-                self.call(config, board, seat, esr);
-                true
-            }
-            Exit::Sync { esr, far } => self.park(config, seat.core, esr, far),
+            Exit::Ran | Exit::Irq => {}
+            Exit::End { id } => self.end(config, board, seat, id),
+            Exit::Sync { esr, far } => self.leave(config, board, seat, esr, far),
         }
     }
 
-    /// Parks a core by the exception that went to EL2, if it does that, and answers so. What else it might do isn't built.
-    fn park(&mut self, config: &Config, core: u8, esr: u64, far: u64) -> bool
-        ensures powers { self.new.powers ≡ (if parks (config_data config.now) core esr far
-            then slice_set self.old.powers core (Power.Parked esr far) else self.old.powers) }
-        ensures tables { self.new.tables ≡ self.old.tables }
-        ensures parked { result ≡ parks (config_data config.now) core esr far }
+    /// Does what an exception asks for that went to EL2.
+    fn leave<B: Board>(&mut self, config: &Config, board: &mut B, seat: Seat, esr: u64, far: u64)
+        requires well_formed { IsWellFormed (config_data config.now) }
+        requires tidy { Tidy (config_data config.now) self.old (B.state board.old) }
+        requires seat { IsSeatOf (config_data config.now) seat.core seat }
+        ensures { let guests = guests_of (config_data config.now) self.old (B.state board.old) in
+            IsLeft (config_data config.now) (record { old = self.old; new = self.new; before = B.state board.old; after = B.state board.new })
+            (done (config_data config.now) seat.core (duty_of (config_data config.now) seat.core (Leave esr far) guests) guests) }
     {
-        if !parks(config, core, esr, far) {
-            return false;
+        if is_call(esr) {
+            self.call(config, board, seat, esr);
+            return;
         }
-        self.set_power(core, Power::Parked { esr, far });
-        true
+        if is_send(esr) {
+            self.send(config, board, seat, esr);
+            return;
+        }
+        self.abort(config, board, seat, esr, far);
+    }
+
+    /// Answers an access to the VM's interrupt controller, by the abort that it made. All else parks the core.
+    fn abort<B: Board>(&mut self, config: &Config, board: &mut B, seat: Seat, esr: u64, far: u64)
+        requires well_formed { IsWellFormed (config_data config.now) }
+        requires tidy { Tidy (config_data config.now) self.old (B.state board.old) }
+        requires seat { IsSeatOf (config_data config.now) seat.core seat }
+        ensures { let guests = guests_of (config_data config.now) self.old (B.state board.old) in
+            IsLeft (config_data config.now) (record { old = self.old; new = self.new; before = B.state board.old; after = B.state board.new })
+            (done (config_data config.now) seat.core (abort_duty (place_of (config_data config.now) seat.core)
+            (frame_access (config_data config.now) (owner (config_data config.now) seat.core) esr far) esr far) guests) }
+    {
+        match frame_access(config, vm_at(config, seat.vm), esr, far) {
+            Some(access) => self.answer_access(config, board, seat, access),
+            None => self.set_power(seat.core, Power::Parked { esr, far }),
+        }
     }
 
     /// Answers a call of a core, and carries out what comes of it.

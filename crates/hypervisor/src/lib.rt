@@ -10,10 +10,11 @@ pub use hyp::Hyp;
 pub use law::a_core_steps_as_in_the_model;
 pub use owners::{owner, virtual_core};
 
+mod emulated;
 mod event;
 mod hyp;
 mod interrupts;
 mod law;
 mod owners;
-mod park;
 mod seat;
+mod syndrome;

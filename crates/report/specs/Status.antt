@@ -9,20 +9,15 @@ use Rattle.report.specs.Digits.{short_hex}
 use Rattle.report.specs.Lines.{newline}
 use Rattle.report.specs.declared.status.FileId.{FileId}
 use Rattle.report.specs.declared.status.FileId.TheVariants.{Config, Image, Schedule}
-use Rattle.report.specs.declared.status.Part.{Part}
-use Rattle.report.specs.declared.status.Part.TheVariants as part
 use Rattle.report.specs.declared.status.Why.{Why}
 use Rattle.report.specs.declared.status.Why.TheVariants.{Shape, Value, Rule}
 use Rattle.report.specs.declared.status.Status.{Status}
-use Rattle.report.specs.declared.status.Status.TheVariants.{Done, Usage, ReadFault, TooLong, BadToml, IllConfig, TooMany, BadSchedule, WriteFault, OutOfMemory, NotBuilt}
+use Rattle.report.specs.declared.status.Status.TheVariants.{Done, Usage, ReadFault, TooLong, BadToml, IllConfig, TooMany, BadSchedule, WriteFault, OutOfMemory}
 
 abbrev pub file_text : FileId → List ℕ
 file_text Config = codes "config"
 file_text (Image vm) = codes "image " ++ decimal vm
 file_text Schedule = codes "schedule"
-
-abbrev pub part_text : Part → List ℕ
-part_text (part.Event number) = codes "event " ++ decimal number
 
 -- a place in a list, `-` where a rule names none
 abbrev pub place_text : ℕ → List ℕ
@@ -73,7 +68,6 @@ refusal_text (TooMany core runs entries) = too_many_text core runs entries ++ ne
 refusal_text (BadSchedule line rule) = bad_schedule_text line rule ++ newline
 refusal_text WriteFault = []
 refusal_text OutOfMemory = codes "out of memory\n"
-refusal_text (NotBuilt part) = codes "not built " ++ (part_text part ++ newline)
 
 -- the exit status of the process
 abbrev pub number_of : Status → ℕ
@@ -87,7 +81,6 @@ number_of (TooMany core runs entries) = 7
 number_of (BadSchedule line rule) = 8
 number_of WriteFault = 9
 number_of OutOfMemory = 10
-number_of (NotBuilt part) = 12
 
 -- the statuses that have a line of their own
 abbrev pub is_refusal : Status → Bool
@@ -101,4 +94,3 @@ is_refusal (TooMany core runs entries) = true
 is_refusal (BadSchedule line rule) = true
 is_refusal WriteFault = false
 is_refusal OutOfMemory = true
-is_refusal (NotBuilt part) = true

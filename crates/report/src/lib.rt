@@ -7,7 +7,7 @@
 pub use alone::{a_vm_shows_as_if_alone, a_vm_shows_nothing_else, a_vm_sums_as_if_alone};
 pub use packing::write_packing;
 pub use refusal::write_refusal;
-pub use status::{FileId, Part, Status, Why};
+pub use status::{FileId, Status, Why};
 pub use summary::write_summary;
 pub use whole::write_report;
 

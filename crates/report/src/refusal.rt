@@ -1,10 +1,10 @@
 ghost use Rattle.std.specs.Prelude.{◌≡◌, ◌+◌, ◌≤◌, ◌++◌, IsTrue, length};
 ghost use Rattle.outside.specs.Sink.{Takes, HasCause};
 ghost use Rattle.bao_config.specs.Path.{path_of};
-ghost use Rattle.report.specs.Status.{refusal_text, is_refusal, file_text, part_text, why_text, ill_text, place_text, range_text, too_long_text, too_many_text, bad_schedule_text};
+ghost use Rattle.report.specs.Status.{refusal_text, is_refusal, file_text, why_text, ill_text, place_text, range_text, too_long_text, too_many_text, bad_schedule_text};
 
 use crate::line::{Line, push_decimal, push_short_hex, push_signed, push_text};
-use crate::{FileId, Part, Status, Why};
+use crate::{FileId, Status, Why};
 use bao_config::Spot;
 use bao_types::ByteRange;
 use bao_wellformed::{Ill, NONE};
@@ -58,11 +58,6 @@ fn refusal_line(status: &Status) -> Line
             push_text(&mut line, b"\n");
         }
         Status::OutOfMemory => push_text(&mut line, b"out of memory\n"),
-        Status::NotBuilt { part } => {
-            push_text(&mut line, b"not built ");
-            push_part(&mut line, *part);
-            push_text(&mut line, b"\n");
-        }
     }
     line
 }
@@ -79,19 +74,6 @@ fn push_file(line: &mut Line, file: FileId)
             push_decimal(line, u32::from(vm));
         }
         FileId::Schedule => push_text(line, b"schedule"),
-    }
-}
-
-fn push_part(line: &mut Line, part: Part)
-    requires { length line.old.items ≤ 16 }
-    ensures text { line.new.items ≡ line.old.items ++ part_text part }
-    ensures len { length line.new.items ≤ length line.old.items + 16 }
-{
-    match part {
-        Part::Event(number) => {
-            push_text(line, b"event ");
-            push_decimal(line, number);
-        }
     }
 }
 

@@ -13,13 +13,6 @@ pub enum FileId {
     Schedule,
 }
 
-/// A part of the input that the program doesn't know yet.
-#[derive(Clone, Copy, Debug, PartialEq, Eq)]
-pub enum Part {
-    /// The event of this number, from 0.
-    Event(u32),
-}
-
 /// Why bytes are no configuration that the program takes. It is the first cause in the order of the keys and rules.
 #[derive(Clone, Copy, Debug, PartialEq, Eq)]
 pub enum Why {
@@ -53,8 +46,6 @@ pub enum Status {
     /// The text wasn't taken whole.
     WriteFault,
     OutOfMemory,
-    /// A part of the input isn't built yet.
-    NotBuilt { part: Part },
 }
 
 impl Status {
@@ -75,7 +66,6 @@ impl Status {
             Status::BadSchedule { .. } => 8,
             Status::WriteFault => 9,
             Status::OutOfMemory => 10,
-            Status::NotBuilt { .. } => 12,
         }
     }
 }

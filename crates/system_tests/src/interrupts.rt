@@ -1,4 +1,4 @@
-//! Guests at the virtual timer and at the interrupt interface, by the whole program. No guest can enable an id yet, so none is
+//! Guests at the virtual timer and at the interrupt interface, by the whole program. None of these enables an id, so none is
 //! taken here; the tests of `board_tests` take them. The expected values were worked out by hand.
 
 use crate::runs::{RUN, image_of, shelf_of, told};

@@ -155,38 +155,30 @@ fn loads_and_stores(rt: HostRuntime) -> Result<(), Fail> {
     Ok(())
 }
 
+/// Puts the address of the distributor into X1, and of a register of the redistributor's second frame into X4.
+const FRAMES: [u32; 2] = [0xd2b5_e001, 0xd2b5_e224];
+
+/// Behind `FRAMES`, with the steps beyond it.
 #[rattlefmt::skip]
-static NOT_BUILT: [(&str, &[u32], u32, u32); 3] = [
-    // shows                           words                                 steps event
-    ("the second word",                &[0xd280_00a0, 0xd518_cba0],              2, 1),
-    ("msr of icc_sgi1r_el1",           &[0xd518_cba0],                           1, 0),
-    ("a load of the distributor",      &[0xd2b5_e001, 0xb940_0420],              2, 1),
+static CONTROLLER: [Program; 11] = [
+    // shows                          words                                                     steps  lines of the report
+    ("the distributor's type",        &[0xb940_0420],                                               1, ["x0 0000000000480002", "pc 000000000010000c"]),
+    ("ids that are enabled",          &[0xd280_2000, 0xb901_0420, 0xb941_0422],                     3, ["x2 0000000000000100", "pc 0000000000100014"]),
+    ("a register that isn't there",   &[0xd280_2000, 0xb901_0c20, 0xb941_0c22, 0x9100_1443],        4, ["x3 0000000000000005", "pc 0000000000100018"]),
+    ("five bits of a priority",       &[0xd280_1fe0, 0x3910_a020, 0x3950_a022],                     3, ["x2 00000000000000f8", "pc 0000000000100014"]),
+    ("a priority with its sign",      &[0xd280_1fe0, 0x3910_a020, 0x3990_a022],                     3, ["x2 fffffffffffffff8", ""]),
+    ("its sign in 32 bits",           &[0xd280_1fe0, 0x3910_a020, 0x39d0_a022],                     3, ["x2 00000000fffffff8", ""]),
+    ("the zero register is loaded",   &[0xb940_043f],                                               1, ["pc 000000000010000c", "x1 00000000af000000"]),
+    ("an interrupt to oneself",       &[0xd280_0020, 0xd518_cba0, 0xb942_0082],                     3, ["x2 0000000000000001", "pc 0000000000100014"]),
+    ("one of another number",         &[0xd280_0020, 0xf2a0_6000, 0xd518_cba0, 0xb942_0082],        4, ["x2 0000000000000008", ""]),
+    ("one to all others is to none",  &[0xd2c0_2000, 0xd518_cba0, 0xb942_0082, 0x9100_1443],        4, ["x3 0000000000000005", "pc 0000000000100018"]),
+    ("one to another core alone",     &[0xd280_0040, 0xd518_cba0, 0xb942_0082, 0x9100_1443],        4, ["x3 0000000000000005", "pc 0000000000100018"]),
 ];
 
-fn check_not_built(
-    rt: &impl Abort,
-    alloc: Global,
-    shows: &str,
-    words: &[u32],
-    count: u32,
-    event: u32,
-) -> Result<(), Fail> {
-    let image = image_of(alloc, words)?;
-    let schedule = steps(alloc, count as usize)?;
-    let mut shelf = sample_shelf(alloc, &image, &schedule)?;
-    let told = told(alloc, &RUN, &mut shelf, &[])?;
-    let entered = u64::from(event) + 1;
-    let wanted = format!(in alloc;
-        "status 12 entered {entered} calls 3 faults 0\nnot built event {event}\n"
-    )?;
-    assert_eq!(rt; told, wanted, "{shows}");
-    Ok(())
-}
-
 #[test]
-fn events_that_are_not_built(rt: HostRuntime) -> Result<(), Fail> {
-    for (shows, words, count, event) in NOT_BUILT.as_slice() {
-        check_not_built(&rt, rt.alloc(), shows, words, *count, *event)?;
+fn interrupt_controller(rt: HostRuntime) -> Result<(), Fail> {
+    for program in CONTROLLER.as_slice() {
+        check_program(&rt, rt.alloc(), &FRAMES, program)?;
     }
     Ok(())
 }

@@ -1,7 +1,7 @@
-ghost use Rattle.std.specs.Prelude.{◌≡◌, ℕ, [], ◌∷◌, ◌++◌, slice_index, Some, None, codes};
+ghost use Rattle.std.specs.Prelude.{◌≡◌, ℕ, [], ◌∷◌, ◌++◌, slice_index, Some, codes};
 ghost use Rattle.system_tests.specs.Sample.{sample};
 ghost use Rattle.board.specs.Machine.{core_at};
-ghost use Rattle.vm_model.specs.Flat.{flat_run, first_unbuilt, entered_count};
+ghost use Rattle.vm_model.specs.Flat.{flat_run, entered_count};
 ghost use Rattle.vm_model.specs.Boot.{boot};
 ghost use Rattle.vm_model.specs.Lone.{stored};
 ghost use Rattle.hypercalls.specs.declared.power.Power.TheVariants.{Parked};
@@ -10,12 +10,11 @@ ghost use Rattle.std.specs.Fmt.{decimal};
 ghost use Rattle.system_tests.specs.WorkedRows.{image, storing_image, steps, two_more};
 
 /// By the definitions, three steps of `movz x0, #5` and a branch to itself leave X0 at 5 and PC at the branch; each step
-/// is entered, and all that they do is built.
+/// is entered.
 pub fn rows()
     ensures pc { (core_at (flat_run sample (boot sample (image ∷ [])) steps).cores 0).pc ≡ 1048580 }
     ensures x0 { slice_index (core_at (flat_run sample (boot sample (image ∷ [])) steps).cores 0).x 0 ≡ 5 }
     ensures entered { entered_count sample (boot sample (image ∷ [])) steps ≡ 3 }
-    ensures built { first_unbuilt sample (boot sample (image ∷ [])) 0 steps ≡ None }
 {}
 
 /// By the definitions, `strh w0, [x1, #2]` stores the two bytes of W0 with the least one first, and nothing else; a load of
@@ -28,7 +27,6 @@ pub fn storing_rows()
     ensures behind { (flat_run sample (flat_run sample (boot sample (storing_image ∷ [])) steps) two_more).bytes 1081348 ≡ 0 }
     ensures x2 { slice_index (core_at
         (flat_run sample (flat_run sample (boot sample (storing_image ∷ [])) steps) two_more).cores 0).x 2 ≡ 0x12 }
-    ensures built { first_unbuilt sample (flat_run sample (boot sample (storing_image ∷ [])) steps) 3 two_more ≡ None }
 {}
 
 /// By the definitions, the line of a core that was parked by a read at 0x40000 where nothing is mapped, with a bit above its

@@ -1,5 +1,5 @@
 -- The registers as the code names them. No public clause cites this module.
-use Rattle.std.specs.Prelude.{ℕ, ◌+◌, ◌<◌, ◌≤◌, Bool}
+use Rattle.std.specs.Prelude.{◌≡◌, ℕ, ◌+◌, ◌<◌, ◌≤◌, Bool}
 use Rattle.vgic_table.specs.declared.id_state.IdState.{IdState}
 use Rattle.vgic_emul.specs.declared.register.Flag.{Flag}
 use Rattle.vgic_emul.specs.declared.register.Flag.TheVariants.{Enabled, Pending}
@@ -22,10 +22,10 @@ effect_of CoreType = core_type
 effect_of (Flags flag sets) = flags (has flag) (with_flag flag sets)
 effect_of Priorities = priorities
 
--- an access of a register lies in it: its ids are ids of the table, and its bytes are the register's
+-- an access of a register lies in it: it has a width of the register's, its ids are ids of the table, and its bytes are the register's
 abbrev pub Fits : ℕ → ℕ → Register → Type 0
-Fits offset width Control = Unit {0}
-Fits offset width DistributorType = Unit {0}
+Fits offset width Control = width ≡ 4
+Fits offset width DistributorType = width ≡ 4
 Fits offset width CoreType = (8 ≤ offset) × (offset < 16) × (offset + width ≤ 16)
-Fits offset width (Flags flag sets) = first_flagged offset ≤ 64
+Fits offset width (Flags flag sets) = (first_flagged offset ≤ 64) × (width ≡ 4)
 Fits offset width Priorities = (0x400 ≤ offset) × (offset < 0x460) × (offset + width ≤ 0x460) × (width ≤ 4)

@@ -1,4 +1,4 @@
-ghost use Rattle.std.specs.Prelude.{◌≡◌, ◌<◌, ◌≤◌, ◌+◌, ◌%◌, IfSome};
+ghost use Rattle.std.specs.Prelude.{◌≡◌, ◌<◌, ◌≤◌, ◌+◌, ◌*◌, ◌%◌, ◌^◌, IfSome};
 ghost use Rattle.std.specs.Option.{option_map};
 ghost use Rattle.vgic_emul.specs.Effects.{first_flagged, part, prioritised, type_of};
 ghost use Rattle.vgic_emul.specs.Reached.{effect_of, Fits};
@@ -24,6 +24,7 @@ pub fn emulate(table: &mut IrqTable, place: FramePlace, width: u32, write: Optio
     requires core { core_of place < 8 }
     requires aligned { offset_of place % width ≡ 0 }
     ensures value { result ≡ answer table.old place width write }
+    ensures bound { result < 2 ^ (8 * width) }
     ensures after { table.new ≡ after table.old place width write }
 {
     let Some(register) = register_at(place, width) else {
@@ -78,7 +79,8 @@ fn register_at(place: FramePlace, width: u32) -> Option<Register>
 fn read_register(table: &IrqTable, core: u8, offset: u32, width: u32, register: Register) -> u64
     requires core { core < 8 }
     requires fits { Fits offset width register }
-    ensures { result ≡ (effect_of register).reads table.now core offset width }
+    ensures value { result ≡ (effect_of register).reads table.now core offset width }
+    ensures bound { result < 2 ^ (8 * width) }
 {
     match register {
         Register::Control => ALWAYS_ON + if table.on() { 2 } else { 0 },
@@ -130,7 +132,8 @@ fn core_type(table: &IrqTable, core: u8) -> u64
 fn part(register: u64, first: u32, width: u32) -> u64
     requires first { first < 8 }
     requires last { first + width ≤ 8 }
-    ensures { result ≡ part register first width }
+    ensures value { result ≡ part register first width }
+    ensures bound { result < 2 ^ (8 * width) }
 {
     let above = register >> (8 * first);
     if width < 8 {

@@ -1,4 +1,4 @@
-ghost use Rattle.std.specs.Prelude.{◌≡◌, ◌<◌, ◌≤◌, ◌+◌};
+ghost use Rattle.std.specs.Prelude.{◌≡◌, ◌<◌, ◌≤◌, ◌+◌, ◌*◌, ◌^◌};
 ghost use Rattle.vgic_emul.specs.Effects.{changed_by_bits, flag_bits, priority_bytes, with_priorities};
 ghost use Rattle.vgic_emul.specs.Reached.{has, with_flag};
 
@@ -9,7 +9,8 @@ use vgic_table::{IdState, IrqTable};
 pub(crate) fn flag_bits(table: &IrqTable, core: u8, flag: Flag, first: u16) -> u64
     requires core { core < 8 }
     requires first { first ≤ 64 }
-    ensures { result ≡ flag_bits table.now core (has flag) first 32 }
+    ensures value { result ≡ flag_bits table.now core (has flag) first 32 }
+    ensures bound { result < 2 ^ 32 }
 {
     let mut value = 0;
     for bit in 0..32u16 {
@@ -46,7 +47,8 @@ pub(crate) fn priority_bytes(table: &IrqTable, core: u8, first: u16, count: u16)
     requires core { core < 8 }
     requires count { count ≤ 4 }
     requires first { first + count ≤ 96 }
-    ensures { result ≡ priority_bytes table.now core first count }
+    ensures value { result ≡ priority_bytes table.now core first count }
+    ensures bound { result < 2 ^ (8 * count) }
 {
     let mut value = 0;
     for byte in 0..count {

@@ -9,7 +9,8 @@ use Rattle.std.proofs.lemmas.Bool.Decides.{nat_tests}
 use Rattle.std.proofs.lemmas.List.{get_or-set_other}
 use Rattle.std.proofs.lemmas.Option.{unwrap_or-slice_get}
 use Rattle.a64_state.specs.Registers.{reset_core}
-use Rattle.exceptions.specs.declared.class.Class.TheVariants.{DataAbortLower}
+use Rattle.a64_state.specs.Core.{CoreData}
+use Rattle.a64_execute.specs.Branch.{advanced}
 use Rattle.bao_config.specs.Data.{ConfigData, VmData, IpcData}
 use Rattle.bao_wellformed.specs.Map.{has_core, owner}
 use Rattle.board.specs.Attempt.{Outcome, Ran, Acknowledged, Ended, Leave}
@@ -26,8 +27,12 @@ use Rattle.hypercalls.specs.declared.service.Service.TheVariants as service
 use Rattle.hypercalls.proofs.Lawful.{outcomes_lawful}
 use Rattle.vm_model.specs.Cores.{affinity_of, is_place, place_of}
 use Rattle.vm_model.specs.Guests.{Guests, Tables}
-use Rattle.vm_model.specs.Park.{is_abort, is_of_class, is_described, width_of, is_in_frame, parks}
-use Rattle.vm_model.specs.Duty.{Park, Call, NotBuilt, all_off, answered, arguments, call_duty, call_outcome, carried, cores_of, done, duty_of, immediate, is_call, is_smc, pended, powers_of, ring_of, rung, started, turned_on, with_answer}
+use Rattle.vgic_emul.specs.Registers.{answer}
+use Rattle.vgic_table.specs.Interrupts.{Interrupts}
+use Rattle.vm_model.specs.Frames.{FrameAccess, accessed, after_access, frame_access}
+use Rattle.vm_model.specs.Interrupts.{virtual_number}
+use Rattle.vm_model.specs.Sent.{is_send, sent, sent_value}
+use Rattle.vm_model.specs.Duty.{Duty, Emulate, Send, Park, Call, abort_duty, all_off, answered, arguments, call_duty, call_outcome, carried, cores_of, done, duty_of, immediate, is_call, is_smc, pended, powers_of, ring_of, rung, send_duty, started, turned_on, with_answer, worked}
 use Rattle.vm_model.proofs.Lists.{set_alike, set_get_alike, set_get_other}
 
 -- the configuration with one VM
@@ -191,11 +196,32 @@ module _ (cfg : ConfigData) (v : ℕ) (vm : VmData) (place : slice_get cfg.vms v
     table = same.table;
   }
 
-  -- an exception parks the core in both
-  parks_alike : (core esr far : ℕ) → IsTrue (has_core core vm) → parks cfg core esr far ≡ parks (single cfg vm) core esr far
-  parks_alike core esr far own =
-      ap (λ o. is_abort esr && not (is_of_class DataAbortLower esr && is_described esr && (far % width_of esr == 0) && is_in_frame cfg o far))
-      (own_owners core own ∙ sym (owner_alone core own))
+  -- a core of the VM has the same registers, and its interrupts are changed alike
+  worked_alike : (core : ℕ) → IsTrue (has_core core vm) → (one other : CoreData) (change same_change : Interrupts → Interrupts) (g h : Guests)
+      → one ≡ other → change (g.tables v) ≡ same_change (h.tables 0) → SameGuests v vm g h
+      → SameGuests v vm (worked v core one change g) (worked 0 core other same_change h)
+  worked_alike core own one other change same_change g h registers interrupts same = record {
+    cores = λ c has.
+        set_alike g.cores h.cores core c one (reset_core 0) same.core_count (same.cores c has)
+        ∙ ap (λ x. core_at (slice_set h.cores core x) c) registers;
+    powers = same.powers;
+    core_count = length-set g.cores core one ∙ same.core_count ∙ sym (length-set h.cores core other);
+    table = ap (λ b. if b then change (g.tables v) else g.tables v) (eq-eqb v v refl) ∙ interrupts;
+  }
+
+  accessed_alike : (core : ℕ) → IsTrue (has_core core vm) → (access : FrameAccess) (g h : Guests) → SameGuests v vm g h
+      → SameGuests v vm (done cfg core (Emulate v access) g) (done (single cfg vm) core (Emulate 0 access) h)
+  accessed_alike core own access g h same =
+      worked_alike core own _ _ (accessed access (core_at g.cores core)) (accessed access (core_at h.cores core)) g h
+      (ap (λ t. after_access access (answer t access.place access.width None) (core_at g.cores core)) same.table
+      ∙ ap (after_access access (answer (h.tables 0) access.place access.width None)) (same.cores core own))
+      (ap (accessed access (core_at g.cores core)) same.table ∙ ap (λ x. accessed access x (h.tables 0)) (same.cores core own)) same
+
+  sent_alike : (core number value : ℕ) → IsTrue (has_core core vm) → (g h : Guests) → SameGuests v vm g h
+      → SameGuests v vm (done cfg core (Send v number value) g) (done (single cfg vm) core (Send 0 number value) h)
+  sent_alike core number value own g h same =
+      worked_alike core own _ _ (sent number value) (sent number value) g h (ap advanced (same.cores core own))
+      (ap (sent number value) same.table) same
 
   -- what is left to do is the same but for the VM's place, and so is what is left when it is done
   pub done_alike : (core : ℕ) → IsTrue (has_core core vm) → (outcome : Outcome) (g h : Guests) → SameGuests v vm g h
@@ -203,7 +229,7 @@ module _ (cfg : ConfigData) (v : ℕ) (vm : VmData) (place : slice_get cfg.vms v
   done_alike core own Ran g h same = same
   done_alike core own Acknowledged g h same = same
   done_alike core own (Ended id) g h same = same
-  done_alike core own (Leave esr far) g h same = by_call (is_call esr)
+  done_alike core own (Leave esr far) g h same = by_call (is_call esr) (is_send esr)
     where
       called : SameGuests v vm (done cfg core (Call v (is_smc esr) (call_outcome cfg v core esr g)) g)
           (done (single cfg vm) core (Call 0 (is_smc esr) (call_outcome (single cfg vm) 0 core esr h)) h)
@@ -217,25 +243,55 @@ module _ (cfg : ConfigData) (v : ℕ) (vm : VmData) (place : slice_get cfg.vms v
           (carried_alike core own _ (call_outcome cfg v core esr g) (call_lawful cfg v core esr g (immediate esr == 0)) _ _
           (answer_alike core own (is_smc esr) (answer_of (call_outcome cfg v core esr g)) g h same)))
 
-      by_call : (b : Bool)
-          → SameGuests v vm
-          (done cfg core (if b then call_duty cfg (place_of cfg core) core esr g else if parks cfg core esr far then Park esr far else NotBuilt) g)
-          (done (single cfg vm) core (if b then call_duty (single cfg vm) (place_of (single cfg vm) core) core esr h
-          else if parks (single cfg vm) core esr far then Park esr far else NotBuilt) h)
-      by_call true =
-          subst (λ o. SameGuests v vm (done cfg core (call_duty cfg o core esr g) g)
-          (done (single cfg vm) core (call_duty (single cfg vm) (place_of (single cfg vm) core) core esr h) h)) (sym (own_places core own))
-          (subst (λ o. SameGuests v vm (done cfg core (Call v (is_smc esr) (call_outcome cfg v core esr g)) g)
-          (done (single cfg vm) core (call_duty (single cfg vm) o core esr h) h)) (sym (place_alone core own)) called)
-      by_call false = by_parks (parks cfg core esr far) (parks (single cfg vm) core esr far) (parks_alike core esr far own)
-        where
-          by_parks : (p q : Bool) → p ≡ q
-              → SameGuests v vm (done cfg core (if p then Park esr far else NotBuilt) g)
-              (done (single cfg vm) core (if q then Park esr far else NotBuilt) h)
-          by_parks true true e = power_alike core own (Parked esr far) g h same
-          by_parks false false e = same
-          by_parks true false e = cc
-          by_parks false true e = cc
+      -- what is left to do, by what the exception is
+      left : ConfigData → Guests → Bool → Bool → Duty
+      left cfg guests calls sends =
+          if calls then call_duty cfg (place_of cfg core) core esr guests
+          else if sends then send_duty cfg (place_of cfg core) core esr guests
+          else abort_duty (place_of cfg core) (frame_access cfg (owner cfg core) esr far) esr far
+
+      by_access : (access : Option FrameAccess)
+          → SameGuests v vm (done cfg core (abort_duty (Some v) access esr far) g)
+          (done (single cfg vm) core (abort_duty (Some 0) access esr far) h)
+      by_access None = power_alike core own (Parked esr far) g h same
+      by_access (Some access) = accessed_alike core own access g h same
+
+      sends_alike : SameGuests v vm (done cfg core (send_duty cfg (Some v) core esr g) g)
+          (done (single cfg vm) core (send_duty (single cfg vm) (Some 0) core esr h) h)
+      sends_alike =
+          subst
+          (λ n. SameGuests v vm (done cfg core (send_duty cfg (Some v) core esr g) g)
+          (done (single cfg vm) core (Send 0 n (sent_value (core_at h.cores core) esr)) h))
+          (ap (λ o. affinity_of o core) (own_owners core own ∙ sym (owner_alone core own)))
+          (subst
+          (λ value. SameGuests v vm (done cfg core (send_duty cfg (Some v) core esr g) g)
+          (done (single cfg vm) core (Send 0 (virtual_number cfg core) value) h)) (ap (λ c. sent_value c esr) (same.cores core own))
+          (sent_alike core (virtual_number cfg core) (sent_value (core_at g.cores core) esr) own g h same))
+
+      at_places : (duty other : Option ℕ → Duty) → SameGuests v vm (done cfg core (duty (Some v)) g) (done (single cfg vm) core (other (Some 0)) h)
+          → SameGuests v vm (done cfg core (duty (place_of cfg core)) g) (done (single cfg vm) core (other (place_of (single cfg vm) core)) h)
+      at_places duty other alike =
+          subst (λ o. SameGuests v vm (done cfg core (duty o) g) (done (single cfg vm) core (other (place_of (single cfg vm) core)) h))
+          (sym (own_places core own))
+          (subst (λ o. SameGuests v vm (done cfg core (duty (Some v)) g) (done (single cfg vm) core (other o) h)) (sym (place_alone core own)) alike)
+
+      aborts : SameGuests v vm (done cfg core (abort_duty (place_of cfg core) (frame_access cfg (owner cfg core) esr far) esr far) g)
+          (done (single cfg vm) core
+          (abort_duty (place_of (single cfg vm) core) (frame_access (single cfg vm) (owner (single cfg vm) core) esr far) esr far) h)
+      aborts =
+          at_places (λ o. abort_duty o (frame_access cfg (owner cfg core) esr far) esr far)
+          (λ o. abort_duty o (frame_access (single cfg vm) (owner (single cfg vm) core) esr far) esr far)
+          (subst
+          (λ access. SameGuests v vm (done cfg core (abort_duty (Some v) (frame_access cfg (owner cfg core) esr far) esr far) g)
+          (done (single cfg vm) core (abort_duty (Some 0) access esr far) h))
+          (ap (λ o. frame_access cfg o esr far) (own_owners core own ∙ sym (owner_alone core own)))
+          (by_access (frame_access cfg (owner cfg core) esr far)))
+
+      by_call : (calls sends : Bool) → SameGuests v vm (done cfg core (left cfg g calls sends) g)
+          (done (single cfg vm) core (left (single cfg vm) h calls sends) h)
+      by_call true sends = at_places (λ o. call_duty cfg o core esr g) (λ o. call_duty (single cfg vm) o core esr h) called
+      by_call false true = at_places (λ o. send_duty cfg o core esr g) (λ o. send_duty (single cfg vm) o core esr h) sends_alike
+      by_call false false = aborts
 
 -- the interrupts of the VM alone after another rings an event
 module _ (cfg : ConfigData) (v : ℕ) (vm : VmData) where
@@ -358,23 +414,47 @@ module _ (cfg : ConfigData) (v : ℕ) (vm : VmData) (place : slice_get cfg.vms v
   done_foreign there Ran g h same = same
   done_foreign there Acknowledged g h same = same
   done_foreign there (Ended id) g h same = same
-  done_foreign there (Leave esr far) g h same = by_call (is_call esr)
+  done_foreign there (Leave esr far) g h same = by_call (is_call esr) (is_send esr)
     where
       by_place : (o : Option ℕ) → place_of cfg core ≡ o
           → SameGuests v vm (done cfg core (call_duty cfg o core esr g) g) (with_heard cfg v vm (ring_of (call_duty cfg o core esr g)) h)
       by_place None e = same
       by_place (Some w) e = called_foreign w (there w e).0 (elsewhere w e) (there w e).1 esr g h same
 
-      by_parks : (p : Bool)
-          → SameGuests v vm (done cfg core (if p then Park esr far else NotBuilt) g)
-          (with_heard cfg v vm (ring_of (if p then Park esr far else NotBuilt)) h)
-      by_parks true = power_foreign (Parked esr far) g h same
-      by_parks false = same
+      -- a core of the other VM has other registers, and its interrupts are changed
+      worked_foreign : (w : ℕ) (registers : CoreData) (change : Interrupts → Interrupts) → place_of cfg core ≡ Some w
+          → SameGuests v vm (worked w core registers change g) h
+      worked_foreign w registers change e = record {
+        cores = λ c has. get_or-set_other g.cores core c registers (reset_core 0) (other_than c core has foreign) ∙ same.cores c has;
+        powers = same.powers;
+        core_count = length-set g.cores core registers ∙ same.core_count;
+        table = by_other (w == v) refl;
+      }
+        where
+          by_other : (b : Bool) → (w == v) ≡ b → (if b then change (g.tables v) else g.tables v) ≡ h.tables 0
+          by_other true here = absurd (elsewhere w e (let same : w ≡ v = grind (arith, nat_tests) in same))
+          by_other false here = same.table
 
-      by_call : (b : Bool)
-          → SameGuests v vm
-          (done cfg core (if b then call_duty cfg (place_of cfg core) core esr g else if parks cfg core esr far then Park esr far else NotBuilt) g)
-          (with_heard cfg v vm (ring_of (if b then call_duty cfg (place_of cfg core) core esr g
-          else if parks cfg core esr far then Park esr far else NotBuilt)) h)
-      by_call true = by_place (place_of cfg core) refl
-      by_call false = by_parks (parks cfg core esr far)
+      by_sender : (o : Option ℕ) → place_of cfg core ≡ o
+          → SameGuests v vm (done cfg core (send_duty cfg o core esr g) g) (with_heard cfg v vm (ring_of (send_duty cfg o core esr g)) h)
+      by_sender None e = same
+      by_sender (Some w) e = worked_foreign w (advanced (core_at g.cores core)) (sent (virtual_number cfg core) (sent_value (core_at g.cores core) esr)) e
+
+      by_access : (o : Option ℕ) (access : Option FrameAccess) → place_of cfg core ≡ o
+          → SameGuests v vm (done cfg core (abort_duty o access esr far) g) (with_heard cfg v vm (ring_of (abort_duty o access esr far)) h)
+      by_access o None e = power_foreign (Parked esr far) g h same
+      by_access None (Some access) e = same
+      by_access (Some w) (Some access) e =
+          worked_foreign w (after_access access (answer (g.tables w) access.place access.width None) (core_at g.cores core))
+          (accessed access (core_at g.cores core)) e
+
+      left : Bool → Bool → Duty
+      left calls sends =
+          if calls then call_duty cfg (place_of cfg core) core esr g
+          else if sends then send_duty cfg (place_of cfg core) core esr g
+          else abort_duty (place_of cfg core) (frame_access cfg (owner cfg core) esr far) esr far
+
+      by_call : (calls sends : Bool) → SameGuests v vm (done cfg core (left calls sends) g) (with_heard cfg v vm (ring_of (left calls sends)) h)
+      by_call true sends = by_place (place_of cfg core) refl
+      by_call false true = by_sender (place_of cfg core) refl
+      by_call false false = by_access (place_of cfg core) (frame_access cfg (owner cfg core) esr far) refl

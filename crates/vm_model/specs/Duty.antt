@@ -1,6 +1,7 @@
 -- What a step leaves to the hypervisor, and what that makes of the VMs. HVC and SMC are answered as calls of the VM: what
--- comes of one is a matter of `hypercalls`. An abort that stage 2 makes parks its core. What an interrupt that is taken or ends
--- changes is done with the step.
+-- comes of one is a matter of `hypercalls`. An access to a frame of the VM's interrupt controller is answered from its interrupts,
+-- and a core sends interrupts to cores of its VM; all else that goes to EL2 parks the core. What an interrupt that is taken or
+-- ends changes is done with the step.
 use Rattle.std.specs.Prelude.{ℕ, ◌==◌, ◌||◌, Bool, true, false, if◌then◌else◌, List, [], ◌∷◌, map, Option, None, Some, slice_get, slice_index, slice_index_or, slice_set}
 use Rattle.bao_types.specs.Bits.{field}
 use Rattle.a64_state.specs.Core.{CoreData}
@@ -17,11 +18,15 @@ use Rattle.hypercalls.specs.declared.outcome.Outcome.TheVariants as call
 use Rattle.hypercalls.specs.declared.outcome.Outcome as calls
 use Rattle.hypercalls.specs.declared.power.Power.{Power}
 use Rattle.hypercalls.specs.declared.power.Power.TheVariants.{On, Off, Parked}
+use Rattle.vgic_emul.specs.Registers.{answer}
 use Rattle.vgic_table.specs.Interrupts.{Interrupts}
 use Rattle.vgic_table.specs.Changes.{made_pending}
 use Rattle.vm_model.specs.Cores.{affinity_of, place_of}
 use Rattle.vm_model.specs.Guests.{Guests, Tables}
-use Rattle.vm_model.specs.Park.{is_of_class, parks}
+use Rattle.vm_model.specs.Frames.{FrameAccess, accessed, after_access, frame_access}
+use Rattle.vm_model.specs.Interrupts.{virtual_number, with_table}
+use Rattle.vm_model.specs.Sent.{is_send, sent, sent_value}
+use Rattle.vm_model.specs.Syndrome.{is_of_class}
 
 -- the exception is a call
 abbrev pub is_hvc : ℕ → Bool
@@ -58,16 +63,27 @@ call_outcome cfg v core esr guests =
     else call.Answer not_supported
 
 -- What a step leaves to do: nothing; to park the core, with syndrome and fault address; to answer a call of the VM at a place,
--- made by SMC or by HVC, of which this comes; or what isn't built.
+-- made by SMC or by HVC, of which this comes; to answer its access to a frame of its interrupt controller; or to send what its
+-- core with a number has written.
 pub data Duty : Type 0 where
   Nothing : Duty
   Park : (esr far : ℕ) → Duty
   Call : (v : ℕ) (smc : Bool) (outcome : calls.Outcome) → Duty
-  NotBuilt : Duty
+  Emulate : (v : ℕ) (access : FrameAccess) → Duty
+  Send : (v own value : ℕ) → Duty
 
 abbrev pub call_duty : ConfigData → Option ℕ → ℕ → ℕ → Guests → Duty
 call_duty cfg None core esr guests = Nothing
 call_duty cfg (Some v) core esr guests = Call v (is_smc esr) (call_outcome cfg v core esr guests)
+
+abbrev pub send_duty : ConfigData → Option ℕ → ℕ → ℕ → Guests → Duty
+send_duty cfg None core esr guests = Nothing
+send_duty cfg (Some v) core esr guests = Send v (virtual_number cfg core) (sent_value (core_at guests.cores core) esr)
+
+abbrev pub abort_duty : Option ℕ → Option FrameAccess → ℕ → ℕ → Duty
+abort_duty v None esr far = Park esr far
+abort_duty None (Some access) esr far = Nothing
+abort_duty (Some v) (Some access) esr far = Emulate v access
 
 abbrev pub duty_of : ConfigData → ℕ → Outcome → Guests → Duty
 duty_of cfg core Ran guests = Nothing
@@ -75,14 +91,8 @@ duty_of cfg core Acknowledged guests = Nothing
 duty_of cfg core (Ended id) guests = Nothing
 duty_of cfg core (Leave esr far) guests =
     if is_call esr then call_duty cfg (place_of cfg core) core esr guests
-    else if parks cfg core esr far then Park esr far
-    else NotBuilt
-
-abbrev pub is_not_built : Duty → Bool
-is_not_built Nothing = false
-is_not_built (Park esr far) = false
-is_not_built (Call v smc outcome) = false
-is_not_built NotBuilt = true
+    else if is_send esr then send_duty cfg (place_of cfg core) core esr guests
+    else abort_duty (place_of cfg core) (frame_access cfg (owner cfg core) esr far) esr far
 
 -- The core that called: x0 is the answer, and SMC is stepped past; but a core that the call turned off stays as it is.
 abbrev pub answered : Bool → Option ℕ → CoreData → CoreData
@@ -127,13 +137,21 @@ abbrev pub with_answer : ℕ → Bool → Option ℕ → Guests → Guests
 with_answer core smc answer guests =
     record guests { cores = slice_set guests.cores core (answered smc answer (core_at guests.cores core)) }
 
+-- a core of a VM has these registers, and the VM's interrupts are changed
+abbrev pub worked : ℕ → ℕ → CoreData → (Interrupts → Interrupts) → Guests → Guests
+worked v core registers change guests =
+    record guests { cores = slice_set guests.cores core registers; tables = with_table (Some v) change guests.tables }
+
 -- after what was left to do for a core is done
 abbrev pub done : ConfigData → ℕ → Duty → Guests → Guests
 done cfg core Nothing guests = guests
 done cfg core (Park esr far) guests = record guests { powers = slice_set guests.powers core (Parked esr far) }
 done cfg core (Call v smc outcome) guests =
     carried cfg v (cores_of (slice_get cfg.vms v)) core outcome (with_answer core smc (answer_of outcome) guests)
-done cfg core NotBuilt guests = guests
+done cfg core (Emulate v access) guests =
+    worked v core (after_access access (answer (guests.tables v) access.place access.width None) (core_at guests.cores core))
+    (accessed access (core_at guests.cores core)) guests
+done cfg core (Send v own value) guests = worked v core (advanced (core_at guests.cores core)) (sent own value) guests
 
 -- the event of a shared memory that is rung, where one is
 abbrev pub ring_of : Duty → Option (ℕ × ℕ)
@@ -144,4 +162,5 @@ ring_of (Call v smc (call.Ring shmem event)) = Some (shmem, event)
 ring_of (Call v smc call.Off) = None
 ring_of (Call v smc (call.On own entry arg)) = None
 ring_of (Call v smc call.SystemOff) = None
-ring_of NotBuilt = None
+ring_of (Emulate v access) = None
+ring_of (Send v own value) = None

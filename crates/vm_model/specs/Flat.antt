@@ -20,7 +20,7 @@ use Rattle.shared_windows.specs.Windows.{lists}
 use Rattle.vm_model.specs.Cores.{place_of}
 use Rattle.vm_model.specs.Guests.{Guests, Tables}
 use Rattle.vm_model.specs.Interrupts.{best_of, is_line_at, table_after, virtual_number, with_table}
-use Rattle.vm_model.specs.Duty.{Duty, done, duty_of, is_not_built, rung}
+use Rattle.vm_model.specs.Duty.{Duty, done, duty_of, rung}
 
 -- memory by address, each core's registers and power by its number, each VM's interrupts by its place, what each port keeps,
 -- by its number, and which lines are raised: of each core's timer, by the core's number, and of each port, by the port's
@@ -162,17 +162,3 @@ abbrev pub entered_count : ConfigData → Flat → List FlatEvent → ℕ
 entered_count cfg f [] = 0
 entered_count cfg f (event ∷ events) =
     (if is_entered cfg f event then 1 else 0) + entered_count cfg (flat_step cfg f event) events
-
--- the event does something that isn't built
-abbrev pub is_event_unbuilt : ConfigData → Flat → FlatEvent → Bool
-is_event_unbuilt cfg f (Step core count) =
-    runs cfg f core && is_not_built (flat_duty cfg (flat_ready cfg f core count) core count)
-is_event_unbuilt cfg f (Input port byte) = false
-is_event_unbuilt cfg f (Wrote stores) = false
-is_event_unbuilt cfg f (Rang shmem event) = false
-
--- the number of the first event that does something that isn't built, counted on from a number
-abbrev pub first_unbuilt : ConfigData → Flat → ℕ → List FlatEvent → Option ℕ
-first_unbuilt cfg f n [] = None
-first_unbuilt cfg f n (event ∷ events) =
-    if is_event_unbuilt cfg f event then Some n else first_unbuilt cfg (flat_step cfg f event) (n + 1) events

@@ -1,6 +1,8 @@
 pub mod Cores
 pub mod Guests
-pub mod Park
+pub mod Syndrome
+pub mod Frames
+pub mod Sent
 pub mod Duty
 pub mod Interrupts
 pub mod Flat

@@ -1,4 +1,4 @@
-use Rattle.std.proofs.Common.{◌≡◌, ◌+◌, sym, true, false, arith}
+use Rattle.std.proofs.Common.{◌≡◌, ◌+◌, ◌<◌, ◌^◌, sym, subst, true, false, arith, rules}
 use Rattle.std.proofs.lemmas.Nat.{one_shl, pow_below}
 use Rattle.vgic_table.specs.Interrupts.{state_of}
 use Rattle.vgic_emul.specs.Reached.{has}
@@ -32,3 +32,9 @@ loop-bit-preserved c =
           let more = flag_bits-off vm core flag first bit off in
           omega (arith, more, w.value-is, c.loop-bit.invariant)
     ]
+
+pub returns-clause-bound : goal.returns-clause-bound
+returns-clause-bound c =
+    let all : c.loop-bit.bit ≡ 32 = search rules in
+    let below = flag_bits-lt c.args.table.now c.args.core (has c.args.flag) c.args.first c.loop-bit.bit in
+    subst (λ n. c.loop-bit.value < 2 ^ n) all (subst (λ v. v < 2 ^ c.loop-bit.bit) (sym c.loop-bit.invariant) below)

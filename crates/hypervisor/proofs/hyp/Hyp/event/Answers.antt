@@ -10,12 +10,11 @@ returns g c =
     let checked = c.args.checked.now in
     let change : Change = record { old = c.args.self.now; new = c.take.new.self; before = g.B.Board.state c.args.board.now; after = g.B.Board.state c.take.new.board } in
     let model =
-    modelled (checked_data checked) checked.well_formed checked.config.fits change c.take.result c.args.event.now c.requires.tidy
-    c.requires.placed (subst (λ cfg. IsAfter cfg change c.args.event.now c.take.result) c.config.ensures c.take.ensures) in
+    modelled (checked_data checked) checked.well_formed checked.config.fits change c.args.event.now c.requires.tidy
+    c.requires.placed (subst (λ cfg. IsAfter cfg change c.args.event.now) c.config.ensures c.take.ensures) in
     record {
       tidy = model.tidy;
       state = model.state;
-      built = model.built_is;
       entered = model.entered;
       spent = model.spent;
       shape = model.shape;

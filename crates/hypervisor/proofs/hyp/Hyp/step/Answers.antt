@@ -44,9 +44,9 @@ returns g c =
     let between = g.B.Board.state c.enter-exit.new.board in let after = g.B.Board.state c.settle.new.board in
     let here = c.in-Some.ensures.seat.core in
     record {
-      after = subst (λ n. IsStepped cfg (record { old = old; new = new; before = m; after = after }) n c.args.count c.settle.result) here
-          (runs_on cfg old mid new m between after c.in-Some.seat.core c.args.count c.enter-exit.result c.settle.result
+      after = subst (λ n. IsStepped cfg (record { old = old; new = new; before = m; after = after }) n c.args.count) here
+          (runs_on cfg old mid new m between after c.in-Some.seat.core c.args.count c.enter-exit.result
           (subst (λ n. runs cfg (stands_for cfg old m) n ≡ true) (sym here)
           (owned_on cfg old m c.args.core (sym c.in-Some.ensures.there) (sym c.is_on.ensures ∙ c.if-not-is_on.false)))
-          c.enter-exit.ensures c.settle.ensures.settled c.settle.ensures.built);
+          c.enter-exit.ensures c.settle.ensures);
     }
