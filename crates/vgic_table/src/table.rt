@@ -15,6 +15,9 @@ const OWN_END: u16 = 32;
 /// The rank where there is no interrupt to take. A rank is a priority times 128, plus an id.
 const NO_RANK: u16 = 32768;
 
+/// Stands for a best rank that isn't known. No rank is as high.
+const UNKNOWN: u16 = u16::MAX;
+
 /// An id as the table keeps it.
 #[derive(Clone, Copy, Debug, PartialEq, Eq)]
 struct Kept {
@@ -47,17 +50,22 @@ pub struct IrqTable {
     cores: u8,
     /// The ids 0 to 31 of 8 cores, one core after another, then the ids 32 to 95 of the VM.
     ids: [Kept; 320],
+    /// The best rank of each core, where it was asked for since the last change; else `UNKNOWN`. A core asks before each of
+    /// its steps, and most steps change nothing.
+    known: [u16; 8],
 }
 
 impl Model for IrqTable {
     ghost use Rattle.std.specs.Prelude.{◌≡◌, ◌≤◌, length};
     ghost use Rattle.vgic_table.specs.Interrupts.{Interrupts};
+    ghost use Rattle.vgic_table.specs.Known.{AreKnown};
 
     ghost Value = { Interrupts };
 
     ghost view = { λ t. record { on = t.on; cores = t.cores; ids = t.ids } };
 
-    ghost invariant = { λ t. (t.cores ≤ 8) × (length t.ids ≡ 320) };
+    ghost invariant = { λ t. (t.cores ≤ 8) × (length t.ids ≡ 320)
+        × (length t.known ≡ 8) × AreKnown (record { on = t.on; cores = t.cores; ids = t.ids }) t.known };
 }
 
 /// Where the table keeps an id of a core.
@@ -104,6 +112,7 @@ impl IrqTable {
             on: false,
             cores,
             ids: [quiet; 320],
+            known: [UNKNOWN; 8],
         }
     }
 
@@ -128,6 +137,7 @@ impl IrqTable {
         ensures { self.new ≡ record self.old { on = on } }
     {
         self.on = on;
+        self.known = [UNKNOWN; 8];
     }
 
     /// What an id of a core is by the table, list registers aside. Ids of a core that the VM doesn't have are as they
@@ -160,6 +170,7 @@ impl IrqTable {
             pending: value.pending,
             active: value.active,
         };
+        self.known = [UNKNOWN; 8];
     }
 
     /// Makes an id pending.
@@ -171,6 +182,7 @@ impl IrqTable {
         let ids = &mut self.ids;
         let kept = &mut ids[place(core, id)];
         kept.pending = true;
+        self.known = [UNKNOWN; 8];
     }
 
     /// Whether the table itself has an id as pending, list registers aside.
@@ -193,6 +205,7 @@ impl IrqTable {
         let ids = &mut self.ids;
         let kept = &mut ids[place(core, id)];
         kept.active = false;
+        self.known = [UNKNOWN; 8];
     }
 
     /// Takes a core's list registers back to the table: each id that stands in one has its pending and active from
@@ -219,6 +232,7 @@ impl IrqTable {
             let kept = &mut ids[place(core, list.id)];
             kept.pending = list.pending;
             kept.active = list.active;
+            self.known = [UNKNOWN; 8];
         }
     }
 
@@ -243,11 +257,26 @@ impl IrqTable {
         ensures lists { result ≡ refilled self.old core lists.now }
         ensures left { self.new ≡ refilled_table self.old core lists.now }
     {
-        if self.best(core) >= best_listed(lists) {
+        if self.known_best(core) >= best_listed(lists) {
             return None;
         }
         self.collect(core, lists);
         Some(self.fill(core))
+    }
+
+    /// The best rank of a core, which is known from then on until the next change.
+    fn known_best(&mut self, core: u8) -> u16
+        requires { core < self.old.cores }
+        ensures value { result ≡ best self.old core }
+        ensures same { self.new ≡ self.old }
+    {
+        let known = self.known[usize::from(core)];
+        if known != UNKNOWN {
+            return known;
+        }
+        let best = self.best(core);
+        self.known[usize::from(core)] = best;
+        best
     }
 
     /// Moves the best id of a core into a list register; free where there is none.
@@ -265,6 +294,7 @@ impl IrqTable {
         let ids = &mut self.ids;
         let kept = &mut ids[place(core, id)];
         kept.pending = false;
+        self.known = [UNKNOWN; 8];
         ListReg {
             id,
             priority,
