@@ -35,6 +35,7 @@ pub(crate) fn decode_branch(word: u32) -> Instr
     }
 }
 
+#[inline(always)]
 fn branch(word: u32) -> Instr
     ensures row { result ≡ reading_of branch_row word }
     ensures lawful { IsLawful result }
@@ -45,6 +46,7 @@ fn branch(word: u32) -> Instr
     }
 }
 
+#[inline(always)]
 fn branch_conditional(word: u32) -> Instr
     ensures row { result ≡ reading_of branch_conditional_row word }
     ensures lawful { IsLawful result }
@@ -55,6 +57,7 @@ fn branch_conditional(word: u32) -> Instr
     }
 }
 
+#[inline(always)]
 fn compare_branch(word: u32) -> Instr
     ensures row { result ≡ reading_of compare_branch_row word }
     ensures lawful { IsLawful result }
@@ -67,6 +70,7 @@ fn compare_branch(word: u32) -> Instr
     }
 }
 
+#[inline(always)]
 fn test_branch(word: u32) -> Instr
     ensures row { result ≡ reading_of test_branch_row word }
     ensures lawful { IsLawful result }
@@ -79,6 +83,7 @@ fn test_branch(word: u32) -> Instr
     }
 }
 
+#[inline(always)]
 fn branch_register(word: u32) -> Instr
     ensures row { result ≡ reading_of branch_register_row word }
     ensures lawful { IsLawful result }

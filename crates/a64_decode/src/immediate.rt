@@ -12,6 +12,7 @@ use crate::{BitfieldKind, Instr, MoveKind, branch};
 use bao_types::{bitmask, field};
 
 /// The whole table.
+#[inline(always)]
 pub(crate) fn decode_immediate(word: u32) -> Instr
     ensures row { result ≡ first_reading table word }
     ensures lawful { IsLawful result }
@@ -33,6 +34,7 @@ pub(crate) fn decode_immediate(word: u32) -> Instr
     }
 }
 
+#[inline(always)]
 fn address(word: u32) -> Instr
     ensures row { result ≡ reading_of address_row word }
     ensures lawful { IsLawful result }
@@ -44,6 +46,7 @@ fn address(word: u32) -> Instr
     }
 }
 
+#[inline(always)]
 fn add_sub_immediate(word: u32) -> Instr
     ensures row { result ≡ reading_of add_sub_immediate_row word }
     ensures lawful { IsLawful result }
@@ -59,6 +62,7 @@ fn add_sub_immediate(word: u32) -> Instr
     }
 }
 
+#[inline(always)]
 fn logical_immediate(word: u32) -> Instr
     ensures row { result ≡ reading_of logical_immediate_row word }
     ensures lawful { IsLawful result }
@@ -81,6 +85,7 @@ fn logical_immediate(word: u32) -> Instr
     }
 }
 
+#[inline(always)]
 fn move_wide(word: u32) -> Instr
     ensures row { result ≡ reading_of move_wide_row word }
     ensures lawful { IsLawful result }
@@ -105,6 +110,7 @@ fn move_wide(word: u32) -> Instr
     }
 }
 
+#[inline(always)]
 fn bitfield(word: u32) -> Instr
     ensures row { result ≡ reading_of bitfield_row word }
     ensures lawful { IsLawful result }
@@ -131,6 +137,7 @@ fn bitfield(word: u32) -> Instr
     }
 }
 
+#[inline(always)]
 fn extract(word: u32) -> Instr
     ensures row { result ≡ reading_of extract_row word }
     ensures lawful { IsLawful result }

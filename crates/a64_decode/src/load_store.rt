@@ -35,6 +35,7 @@ pub(crate) fn decode_load_store(word: u32) -> Instr
     }
 }
 
+#[inline(always)]
 fn load_literal(word: u32) -> Instr
     ensures row { result ≡ reading_of load_literal_row word }
     ensures lawful { IsLawful result }
@@ -52,6 +53,7 @@ fn load_literal(word: u32) -> Instr
     }
 }
 
+#[inline(always)]
 fn pair(word: u32) -> Instr
     ensures row { result ≡ reading_of pair_row word }
     ensures lawful { IsLawful result }
@@ -84,6 +86,7 @@ fn pair(word: u32) -> Instr
     }
 }
 
+#[inline(always)]
 fn load_store_unsigned(word: u32) -> Instr
     ensures row { result ≡ reading_of load_store_unsigned_row word }
     ensures lawful { IsLawful result }
@@ -102,6 +105,7 @@ fn load_store_unsigned(word: u32) -> Instr
     }
 }
 
+#[inline(always)]
 fn load_store_indexed(word: u32) -> Instr
     ensures row { result ≡ reading_of load_store_indexed_row word }
     ensures lawful { IsLawful result }
@@ -131,6 +135,7 @@ fn load_store_indexed(word: u32) -> Instr
     }
 }
 
+#[inline(always)]
 fn load_store_register(word: u32) -> Instr
     ensures row { result ≡ reading_of load_store_register_row word }
     ensures lawful { IsLawful result }

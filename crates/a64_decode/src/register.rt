@@ -29,6 +29,7 @@ pub(crate) fn decode_register(word: u32) -> Instr
     }
 }
 
+#[inline(always)]
 fn logical_shifted(word: u32) -> Instr
     ensures row { result ≡ reading_of logical_shifted_row word }
     ensures lawful { IsLawful result }
@@ -50,6 +51,7 @@ fn logical_shifted(word: u32) -> Instr
     }
 }
 
+#[inline(always)]
 fn add_sub_shifted(word: u32) -> Instr
     ensures row { result ≡ reading_of add_sub_shifted_row word }
     ensures lawful { IsLawful result }
@@ -77,6 +79,7 @@ fn add_sub_shifted(word: u32) -> Instr
     }
 }
 
+#[inline(always)]
 fn add_sub_extended(word: u32) -> Instr
     ensures row { result ≡ reading_of add_sub_extended_row word }
     ensures lawful { IsLawful result }
@@ -97,6 +100,7 @@ fn add_sub_extended(word: u32) -> Instr
     }
 }
 
+#[inline(always)]
 fn add_sub_carry(word: u32) -> Instr
     ensures row { result ≡ reading_of add_sub_carry_row word }
     ensures lawful { IsLawful result }

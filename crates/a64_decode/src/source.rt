@@ -11,6 +11,7 @@ use crate::{Instr, OneSourceKind, Operand, ProductKind, SelectKind, TwoSourceKin
 use bao_types::field;
 
 /// The table from the conditional compares on.
+#[inline(always)]
 pub(crate) fn decode_source(word: u32) -> Instr
     ensures row { result ≡ first_reading source_rows word }
     ensures lawful { IsLawful result }
@@ -30,6 +31,7 @@ pub(crate) fn decode_source(word: u32) -> Instr
     }
 }
 
+#[inline(always)]
 fn conditional_compare(word: u32) -> Instr
     ensures row { result ≡ reading_of conditional_compare_row word }
     ensures lawful { IsLawful result }
@@ -49,6 +51,7 @@ fn conditional_compare(word: u32) -> Instr
     }
 }
 
+#[inline(always)]
 fn conditional_select(word: u32) -> Instr
     ensures row { result ≡ reading_of conditional_select_row word }
     ensures lawful { IsLawful result }
@@ -69,6 +72,7 @@ fn conditional_select(word: u32) -> Instr
     }
 }
 
+#[inline(always)]
 fn three_sources(word: u32) -> Instr
     ensures row { result ≡ reading_of three_sources_row word }
     ensures lawful { IsLawful result }
@@ -95,6 +99,7 @@ fn three_sources(word: u32) -> Instr
     }
 }
 
+#[inline(always)]
 fn two_sources(word: u32) -> Instr
     ensures row { result ≡ reading_of two_sources_row word }
     ensures lawful { IsLawful result }
@@ -117,6 +122,7 @@ fn two_sources(word: u32) -> Instr
     }
 }
 
+#[inline(always)]
 fn one_source(word: u32) -> Instr
     ensures row { result ≡ reading_of one_source_row word }
     ensures lawful { IsLawful result }

@@ -31,6 +31,7 @@ pub fn complete(core: &mut Core, moment: Moment, instr: &Instr)
 ///
 /// `got` is what was loaded: the bytes of the access in address order as one little-endian number, for a pair the second
 /// element from bit 8 times the width on. It means nothing where nothing was loaded.
+#[inline(always)]
 pub fn complete_access(core: &mut Core, moment: Moment, instr: &Instr, shape: &MemShape, got: u128)
     requires lawful { IsLawful instr.now }
     requires need { access_asked (wanted core.old instr.now) ≡ Some shape.now }

@@ -161,6 +161,7 @@ fn write_register(core: &Core, id: SysId, rt: Reg) -> Need
 
 /// What a store writes, as elements of `width` bytes.
 #[rattlefmt::skip]
+#[inline(always)]
 fn stored_value(core: &Core, instr: &Instr, width: u32) -> u128
     requires lawful { IsLawful instr.now }
     requires width { IsWidth width }
@@ -195,6 +196,7 @@ pub(crate) fn unit(width: u32) -> u128
 }
 
 /// The lowest bytes of a register; register 31 reads as zero.
+#[inline(always)]
 fn low(core: &Core, width: u32, r: Reg) -> u128
     requires reg { IsReg r }
     requires width { IsWidth width }

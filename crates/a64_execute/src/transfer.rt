@@ -13,6 +13,7 @@ use a64_state::Core;
 /// Writes what was loaded to its registers, and the base back, where the instruction does so.
 #[rattlefmt::skip]
 #[tactic(auto, unfolding(crate::specs::Transfer::transferred))]
+#[inline(always)]
 pub(crate) fn transfer(core: &mut Core, instr: &Instr, shape: &MemShape, got: u128)
     requires lawful { IsLawful instr.now }
     requires width { IsWidth shape.now.width }
@@ -51,6 +52,7 @@ pub(crate) fn transfer(core: &mut Core, instr: &Instr, shape: &MemShape, got: u1
 }
 
 /// The element of `width` bytes at the lowest address.
+#[inline(always)]
 fn first(got: u128, width: u32) -> u64
     requires { IsWidth width }
     ensures value { result ≡ first_element (8 * width) got }
@@ -60,6 +62,7 @@ fn first(got: u128, width: u32) -> u64
 }
 
 /// The element behind it.
+#[inline(always)]
 fn second(got: u128, width: u32) -> u64
     requires { IsWidth width }
     ensures value { result ≡ second_element (8 * width) got }
@@ -69,6 +72,7 @@ fn second(got: u128, width: u32) -> u64
 }
 
 /// Writes a loaded element to a register.
+#[inline(always)]
 fn load(core: &mut Core, transfer: Transfer, width: u32, rt: Reg, element: u64)
     requires reg { IsReg rt }
     requires width { IsWidth width }
@@ -84,6 +88,7 @@ fn load(core: &mut Core, transfer: Transfer, width: u32, rt: Reg, element: u64)
 }
 
 /// Writes the loaded elements of a pair to its registers.
+#[inline(always)]
 fn load_pair(core: &mut Core, kind: PairKind, width: u32, rt: Reg, rt2: Reg, got: u128)
     requires first { IsReg rt }
     requires second { IsReg rt2 }
@@ -97,6 +102,7 @@ fn load_pair(core: &mut Core, kind: PairKind, width: u32, rt: Reg, rt2: Reg, got
 }
 
 /// Writes the base back, where it is written back. Register 31 is SP.
+#[inline(always)]
 fn write_back(core: &mut Core, rn: Reg, back: Option<u64>)
     requires { IsReg rn }
     ensures { core.new ≡ with_back back rn core.old }

@@ -286,7 +286,9 @@ fn execute_load<D: Devices>(
         lists (byte_at memory.now) (D.states devices.old) (D.lines devices.old) }
 {
     if is_stopped(core, request.shape) {
-        return stop(core, &request.fetched.instr, request.shape);
+        // A copy is lent out, so that the request itself needs no place in memory.
+        let (instr, shape) = (request.fetched.instr, *request.shape);
+        return stop(core, &instr, &shape);
     }
     take_load(core, memory, devices, table, request)
 }
@@ -443,7 +445,9 @@ fn execute_store<D: Devices>(
         lists (byte_at memory.old) (D.states devices.old) (D.lines devices.old) }
 {
     if is_stopped(core, request.shape) {
-        return stop(core, &request.fetched.instr, request.shape);
+        // A copy is lent out, so that the request itself needs no place in memory.
+        let (instr, shape) = (request.fetched.instr, *request.shape);
+        return stop(core, &instr, &shape);
     }
     take_store(core, memory, devices, table, request)
 }
