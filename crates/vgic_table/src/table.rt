@@ -257,7 +257,12 @@ impl IrqTable {
         ensures lists { result ≡ refilled self.old core lists.now }
         ensures left { self.new ≡ refilled_table self.old core lists.now }
     {
-        if self.known_best(core) >= best_listed(lists) {
+        let best = self.known_best(core);
+        // Asked before every step of a core, of which most have nothing pending.
+        if best == NO_RANK {
+            return None;
+        }
+        if best >= best_listed(lists) {
             return None;
         }
         self.collect(core, lists);
