@@ -36,4 +36,18 @@ static inline void console_put_text(volatile struct console *console, const char
     }
 }
 
+// Puts a number out in decimal.
+static inline void console_put_number(volatile struct console *console, uint32_t number)
+{
+    uint8_t digits[10];
+    unsigned count = 0;
+    do {
+        digits[count++] = '0' + number % 10;
+        number /= 10;
+    } while (number != 0);
+    while (count > 0) {
+        console_put(console, digits[--count]);
+    }
+}
+
 #endif
