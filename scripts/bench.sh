@@ -1,18 +1,20 @@
 #!/usr/bin/env bash
 # Measures the proved program: how many steps it makes in a second in three loops (data processing alone, branches and
-# calls, loads and stores), in a guest whose timer raises its line every 102 steps and the same guest without, and in eight
-# VMs in turn; how many events of a generated workload; how often runs of few and of many steps took memory; the most memory
-# that it had, also by how much of its banks a VM uses; and how long the check of the largest lawful configuration takes.
+# calls, loads and stores), in a guest that takes an interrupt of its timer every 103 steps and the same guest with the timer
+# off, in the example of two VMs that work by interrupts (examples/control, over 1,000,000 events), and in eight VMs in turn;
+# how many events of a generated workload; how often runs of few and of many steps took memory; the most memory that it had,
+# also by how much of its banks a VM uses; and how long the check of the largest lawful configuration takes.
 # `bench.sh IMAGE` measures another image that runs for ever in the place of the three. The variable PROGRAM names another
 # program to measure, which is then taken as it is.
 #
 # Outside the gate, and no judge of time. The status is 1 where a run fails, where its report isn't the one that qemu
-# made (bench/LOOP.expected), where steps take memory, or where a small VM of a large bank takes 4 MiB or more; 2 where
-# nothing could be measured. It wants Debian's packages time and valgrind, and makes the proved program where it isn't
-# there yet.
+# made (bench/LOOP.expected), where a guest took another number of interrupts or messages than it should, where steps take
+# memory, or where a small VM of a large bank takes 4 MiB or more; 2 where nothing could be measured. It wants Debian's
+# packages time and valgrind, and makes the proved program where it isn't there yet.
 #
-# bench/LOOP.bin, and timer.bin, is made from its source by aarch64-linux-gnu-as and aarch64-linux-gnu-objcopy -O binary (binutils
-# 2.40). bench/LOOP.expected is the report after 1,000,000 steps in qemu-aarch64, as scripts/report-by-qemu.py prints it.
+# bench/LOOP.bin, and timer.bin, is made from its source by aarch64-linux-gnu-as and aarch64-linux-gnu-objcopy -O binary
+# (binutils 2.40). bench/LOOP.expected is the report after 1,000,000 steps in qemu-aarch64, as scripts/report-by-qemu.py
+# prints it.
 
 top="$(dirname "$(dirname "$(readlink -f "${BASH_SOURCE[0]}")")")"
 program="${PROGRAM:-$top/crates/bao/out/bao}"
@@ -116,29 +118,54 @@ for loop in "${loops[@]}"; do
     measure "$loop"
 done
 
-# Measures the guest that sets its timer, by the name and the lowest 16 bits of what it writes to CNTV_CTL_EL0. Each step is
-# handed one count more than the one before. Its line is forwarded each time it rises; the guest takes no interrupt of it, since
-# no guest can enable one yet.
-measure_timer() {
-    local name="$1" control="$2" begin number fastest= took
-    take_image timer
-    # `movz x0, #control`
-    python3 -c "import struct, sys; sys.stdout.buffer.write(struct.pack('<I', 0xd2800000 + ($control << 5)))" |
-        dd of=a.bin conv=notrunc status=none || give_up 2 "the image of the timer can't be changed"
+# Runs the program on the words some times, by a name for what is run. The least time is in fastest.
+run_fastest() {
+    local name="$1" number begin took
+    shift
+    fastest=
     for ((number = 0; number < runs; number++)); do
         begin="$(now)"
-        "$program" run config.toml counts </dev/null >out || give_up 1 "a run with $name failed: $(head -c 200 out)"
+        "$program" "$@" </dev/null >out || give_up 1 "a run with $name failed: $(head -c 200 out)"
         took=$(($(now) - begin))
         [[ $(tail -n 1 out) == "done" ]] || give_up 1 "a run with $name put out no whole report"
         [[ -n $fastest && $took -ge $fastest ]] || fastest="$took"
     done
+}
+
+# Measures the guest that sets its timer, by a name, the lowest 16 bits of what it writes to CNTV_CTL_EL0, and how many
+# interrupts it is to take, which it counts in X4. Each step is handed one count more than the one before.
+measure_timer() {
+    local name="$1" control="$2" interrupts="$3" found
+    take_image timer
+    # `movz x0, #control`
+    python3 -c "import struct, sys; sys.stdout.buffer.write(struct.pack('<I', 0xd2800000 + ($control << 5)))" |
+        dd of=a.bin conv=notrunc status=none || give_up 2 "the image of the timer can't be changed"
+    run_fastest "$name" run config.toml counts
+    found="$(sed -n 's/^x4 //p' out)"
+    ((16#${found:-0} == interrupts)) || give_up 1 "a run with $name took $((16#${found:-0})) interrupts, and not $interrupts"
     echo "$name: $((many * 1000000 / fastest)) steps per second ($many steps in $((fastest / 1000)) ms)"
+}
+
+# Measures the example of two VMs that work by interrupts, over a longer schedule of the same kind: 995,024 steps, 4,975 pulses
+# and a digit are 1,000,000 events. By then there were 994 ticks, the first at count 1,070 and one each 1,000, and each sample
+# was sent and received, as the first two words of the window tell.
+measure_control() {
+    local example="$top/examples/control"
+    cp "$example"/{control.bin,monitor.bin} . && cp "$example/config.toml" control.toml ||
+        give_up 2 "examples/control can't be copied"
+    "$top/scripts/schedule.py" 995024 --cores 2 --every 12=200 --at 2960=0=7 >control.txt &&
+        (($(wc -l <control.txt) == many)) || give_up 2 "scripts/schedule.py made no schedule of $many events"
+    run_fastest "two VMs that work by interrupts" run control.toml control.txt
+    grep -q '^m 0000000000180000 e2030000e2030000' out || give_up 1 "two VMs that work by interrupts passed other messages"
+    echo "two VMs that work by interrupts: $((many * 1000000 / fastest)) events per second" \
+        "($many events in $((fastest / 1000)) ms)"
 }
 
 if [[ $# == 0 ]]; then
     seq -f 's 0 %.0f' 0 $((many - 1)) >counts
-    measure_timer "a timer that is off" 0
-    measure_timer "a timer's line every 102 steps" 1
+    measure_timer "a timer that is off" 0 0
+    measure_timer "a timer's interrupt every 103 steps" 1 9708 # at 114, 217, .. 999,935
+    measure_control
 fi
 
 # Eight VMs on eight cores, each with the loop of data processing in memory of its own. Whether the time grows as the
@@ -173,15 +200,9 @@ devs = [{ port = $v, irq = 40 }]"
 
 # Measures eight VMs over so many steps, and prints how many a second has.
 measure_eight() {
-    local steps="$1" begin number fastest= took
+    local steps="$1"
     "$top/scripts/schedule.py" "$steps" --cores 8 >eight.txt || give_up 2 "scripts/schedule.py made no schedule"
-    for ((number = 0; number < runs; number++)); do
-        begin="$(now)"
-        "$program" run eight.toml eight.txt </dev/null >out || give_up 1 "a run of eight VMs failed: $(head -c 200 out)"
-        took=$(($(now) - begin))
-        [[ $(tail -n 1 out) == "done" ]] || give_up 1 "a run of eight VMs put out no whole report"
-        [[ -n $fastest && $took -ge $fastest ]] || fastest="$took"
-    done
+    run_fastest "eight VMs" run eight.toml eight.txt
     echo "eight VMs: $((steps * 1000000 / fastest)) steps per second ($steps steps in $((fastest / 1000)) ms)"
 }
 

@@ -19,8 +19,8 @@
 
 static struct sample sample; // of the last tick
 static uint64_t next_tick;
-static uint32_t pulses;      // of the wheel, up to the last tick
-static uint32_t target = 5;  // pulses a tick
+static uint32_t pulses;     // of the wheel, up to the last tick
+static uint32_t target = 5; // pulses a tick
 
 static void tick(void)
 {
@@ -45,9 +45,10 @@ static void answer(void)
 {
     while (console_has_byte(CONSOLE)) {
         uint8_t byte = console_get(CONSOLE);
-        if (byte >= '0' && byte <= '9') {
-            target = byte - '0';
+        if (byte < '0' || byte > '9') {
+            continue;
         }
+        target = byte - '0';
         console_put_text(CONSOLE, "<speed ");
         console_put(CONSOLE, byte);
         console_put(CONSOLE, '>');
