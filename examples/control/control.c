@@ -19,8 +19,10 @@
 
 static struct sample sample; // of the last tick
 static uint64_t next_tick;
-static uint32_t pulses;     // of the wheel, up to the last tick
-static uint32_t target = 5; // pulses a tick
+static uint32_t pulses; // of the wheel, up to the last tick
+
+// Pulses a tick. An answer sets it and a tick reads it, which may come at any place of the answer.
+static volatile uint32_t target = 5;
 
 static void tick(void)
 {

@@ -24,7 +24,8 @@ static inline void send(volatile struct mailbox *mailbox, const struct message *
     ring_doorbell(WINDOW_PLACE, EVENT);
 }
 
-// Waits for a message; no interrupt comes of a ring yet. Whatever the other VM wrote, it ends with a zero.
+// Waits for a message, by looking for it: neither VM enables the doorbell's interrupt. Whatever the other VM wrote, the message
+// ends with a zero.
 static inline void receive(volatile struct mailbox *mailbox, struct message *message)
 {
     while (!mailbox_receive(mailbox, message)) {
