@@ -6,7 +6,7 @@
 #include <stdbool.h>
 #include <stdint.h>
 
-// the platform's `gicd` and `gicr`
+// the platform's `gicd` and `gicr`; a guest of another platform defines both before this
 #ifndef GICD
 #define GICD 0xaf000000
 #define GICR 0xaf100000
