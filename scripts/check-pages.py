@@ -18,12 +18,12 @@ def crates():
 
 
 def edits_named():
-    """The crate and the name of each edit in the third column of the table of threats."""
+    """The crate and the name of each edit in the last column of the tables of threats."""
     for row in (TOP / "docs/security.md").read_text().splitlines():
         cells = row.split(" | ")
-        if len(cells) != 3 or not row.startswith("|"):
+        if len(cells) < 3 or not row.startswith("|"):
             continue
-        for crate, names in re.findall(r"`(\w+)`: ((?:`\w+`(?:, )?)+)", cells[2]):
+        for crate, names in re.findall(r"`(\w+)`: ((?:`\w+`(?:, )?)+)", cells[-1]):
             yield from ((crate, name) for name in re.findall(r"`(\w+)`", names))
 
 
