@@ -1,5 +1,5 @@
 #!/usr/bin/env python3
-"""Checks what the pages name: each edit of docs/security.md stands in its crate, each crate is told of, each link leads on.
+"""Checks what the pages name: each edit of docs/security.md stands in its crate, each crate is told of, each link leads on. And whether the stored run has the files of the example that it is a copy of.
 
 check-pages.py, from anywhere. It prints a line for each name that isn't there, and ends with status 1 where there is one.
 """
@@ -9,6 +9,8 @@ import sys
 from pathlib import Path
 
 TOP = Path(__file__).resolve().parent.parent
+EXAMPLE = TOP / "examples/control"
+STORED = TOP / "crates/bao_control"
 PAGES = [TOP / "README.md", TOP / "CONTRIBUTING.md", *sorted((TOP / "docs").glob("*.md"))]
 
 
@@ -36,6 +38,9 @@ def missing():
         for crate in crates():
             if f"`{crate}`" not in text:
                 yield f"docs/{page} says nothing of {crate}"
+    for name in ("config.toml", "control.bin", "monitor.bin", "schedule.txt"):
+        if (EXAMPLE / name).read_bytes() != (STORED / "data" / name).read_bytes():
+            yield f"{name} of crates/bao_control isn't that of examples/control"
     for page in PAGES:
         for link in re.findall(r"\]\(([^)#:]+)\)", page.read_text()):
             if not (page.parent / link).exists():
