@@ -16,7 +16,8 @@ use Rattle.vm_model.specs.Lone.{only, view, lone}
 use Rattle.ports.specs.PortState.{output_of}
 use Rattle.board.specs.Ports.{outputs}
 use Rattle.report.specs.Lines.{vm_line, end_line, console_line, memory_line}
-use Rattle.report.specs.Section.{power_line, registers_text, core_text, cores_text, is_console, console_text, consoles_text, run_of, is_memory, are_zero, group_text, memory_text, all_groups, vm_text, section_of, section}
+use Rattle.report.specs.Registers.{registers_text}
+use Rattle.report.specs.Section.{power_line, core_text, cores_text, is_console, console_text, consoles_text, run_of, is_memory, are_zero, group_text, memory_text, all_groups, vm_text, section_of, section}
 use Rattle.vm_model.specs.Agree.{is_present, Agree}
 use Rattle.vm_model.specs.Apart.{IsGranular}
 use Rattle.report.specs.Alone.{ShowsAsIfAlone, ShowsNothingElse}

@@ -6,7 +6,7 @@ use Rattle.std.specs.Prelude.{Option}
 use Rattle.outside.specs.Sink.{grown, TakesPart}
 use Rattle.report.specs.Digits.{hex, hex_bytes}
 use Rattle.report.specs.Lines.{nonzero_line, x_name}
-use Rattle.report.specs.Section.{x_text}
+use Rattle.report.specs.Registers.{general_text}
 use Rattle.report.specs.Groups.{plain_group, groups_text}
 use Rattle.report.proofs.Progress.{IsUnderWay, under_way, goes_on, stops, all_taken}
 
@@ -17,32 +17,32 @@ rewritten start now whole left left' same way = rw (← same) way
 
 -- the general registers
 module _ (start now : Option (List ℕ)) (values : List ℕ) (n : ℕ) where
-  x_next : n < length values
-      → x_text n (drop n values) ≡ nonzero_line (x_name n) (get_or values n 0) ++ x_text (n + 1) (drop (n + 1) values)
-  unfolding x_text
-  x_next low = rw (drop-cons values n 0, add-one) refl
+  general_next : n < length values
+      → general_text n (drop n values) ≡ nonzero_line (x_name n) (get_or values n 0) ++ general_text (n + 1) (drop (n + 1) values)
+  unfolding general_text
+  general_next low = rw (drop-cons values n 0, add-one) refl
 
-  x_left_none : length values ≤ n → x_text n (drop n values) ≡ []
-  unfolding x_text
-  x_left_none high = rw (drop_of_length-le values high) refl
+  general_left_none : length values ≤ n → general_text n (drop n values) ≡ []
+  unfolding general_text
+  general_left_none high = rw (drop_of_length-le values high) refl
 
-  pub x_goes_on : (new : Option (List ℕ)) → n < length values
-      → IsUnderWay start now (x_text 0 values) (x_text n (drop n values))
+  pub general_goes_on : (new : Option (List ℕ)) → n < length values
+      → IsUnderWay start now (general_text 0 values) (general_text n (drop n values))
       → new ≡ grown now (nonzero_line (x_name n) (get_or values n 0))
-      → IsUnderWay start new (x_text 0 values) (x_text (n + 1) (drop (n + 1) values))
-  x_goes_on new low way put = goes_on _ _ _ _ _ _ (rewritten _ _ _ _ _ (x_next low) way) put
+      → IsUnderWay start new (general_text 0 values) (general_text (n + 1) (drop (n + 1) values))
+  general_goes_on new low way put = goes_on _ _ _ _ _ _ (rewritten _ _ _ _ _ (general_next low) way) put
 
-  pub x_stops : (new : Option (List ℕ)) → n < length values
-      → IsUnderWay start now (x_text 0 values) (x_text n (drop n values))
-      → TakesPart now new (nonzero_line (x_name n) (get_or values n 0)) → TakesPart start new (x_text 0 values)
-  x_stops new low way part = stops _ _ _ _ _ _ (rewritten _ _ _ _ _ (x_next low) way) part
+  pub general_stops : (new : Option (List ℕ)) → n < length values
+      → IsUnderWay start now (general_text 0 values) (general_text n (drop n values))
+      → TakesPart now new (nonzero_line (x_name n) (get_or values n 0)) → TakesPart start new (general_text 0 values)
+  general_stops new low way part = stops _ _ _ _ _ _ (rewritten _ _ _ _ _ (general_next low) way) part
 
-  pub x_ends : length values ≤ n → IsUnderWay start now (x_text 0 values) (x_text n (drop n values))
-      → now ≡ grown start (x_text 0 values)
-  x_ends high way = all_taken _ _ _ (rewritten _ _ _ _ _ (x_left_none high) way)
+  pub general_ends : length values ≤ n → IsUnderWay start now (general_text 0 values) (general_text n (drop n values))
+      → now ≡ grown start (general_text 0 values)
+  general_ends high way = all_taken _ _ _ (rewritten _ _ _ _ _ (general_left_none high) way)
 
-pub x_begins : (start : Option (List ℕ)) (values : List ℕ) → IsUnderWay start start (x_text 0 values) (x_text 0 values)
-x_begins start values = under_way start (x_text 0 values)
+pub general_begins : (start : Option (List ℕ)) (values : List ℕ) → IsUnderWay start start (general_text 0 values) (general_text 0 values)
+general_begins start values = under_way start (general_text 0 values)
 
 -- the bytes that a console has put out
 module _ (start now : Option (List ℕ)) (bytes : List ℕ) (n : ℕ) where

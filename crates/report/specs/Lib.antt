@@ -1,5 +1,6 @@
 pub mod Digits
 pub mod Lines
+pub mod Registers
 pub mod Section
 pub mod Groups
 pub mod Packing

@@ -2,7 +2,6 @@
 use Rattle.std.specs.Prelude.{ℕ, zero, suc, ◌+◌, ◌==◌, ◌&&◌, nat_lt, Bool, true, false, not, if◌then◌else◌, List, [], ◌∷◌, ◌++◌, Option, None, Some, slice_get, codes}
 use Rattle.std.specs.List.{list_all}
 use Rattle.a64_state.specs.Core.{CoreData}
-use Rattle.board.specs.declared.view.CoreView.{CoreView}
 use Rattle.bao_config.specs.Data.{ConfigData, VmData}
 use Rattle.bao_config.specs.declared.config.Dev.{Dev}
 use Rattle.bao_wellformed.specs.declared.map.Kind.{Kind}
@@ -14,36 +13,8 @@ use Rattle.hypercalls.specs.declared.power.Power.{Power}
 use Rattle.hypercalls.specs.declared.power.Power.TheVariants.{On, Off, Parked}
 use Rattle.vm_model.specs.Flat.{Flat}
 use Rattle.board.specs.Ports.{outputs}
-use Rattle.report.specs.Lines.{vm_line, end_line, core_on_line, core_off_line, core_parked_line, register_line, nonzero_line, x_name, console_line, memory_line, done_line}
-
--- the general registers from a number on
-unfoldable pub x_text : ℕ → List ℕ → List ℕ
-x_text n [] = []
-x_text n (value ∷ values) = nonzero_line (x_name n) value ++ x_text (n + 1) values
-
--- the stack pointers
-unfoldable pub stack_text : CoreView → List ℕ
-stack_text view = nonzero_line (codes "sp_el0") view.sp0 ++ nonzero_line (codes "sp_el1") view.sp1
-
--- what an exception returns to, what it says of its cause, and what governs EL1
-unfoldable pub return_text : CoreView → List ℕ
-return_text view = nonzero_line (codes "elr_el1") view.elr ++ nonzero_line (codes "spsr_el1") view.spsr
-
-unfoldable pub fault_text : CoreView → List ℕ
-fault_text view = nonzero_line (codes "esr_el1") view.esr ++ nonzero_line (codes "far_el1") view.far
-
-unfoldable pub control_text : CoreView → List ℕ
-control_text view = nonzero_line (codes "vbar_el1") view.vbar ++ nonzero_line (codes "sctlr_el1") view.sctlr
-
-unfoldable pub exception_text : CoreView → List ℕ
-exception_text view = return_text view ++ (fault_text view ++ control_text view)
-
-unfoldable pub program_text : CoreView → List ℕ
-program_text view =
-    register_line (codes "pc") 16 view.pc ++ (register_line (codes "pstate") 8 view.pstate ++ stack_text view)
-
-unfoldable pub registers_text : CoreView → List ℕ
-registers_text view = program_text view ++ (x_text 0 view.x ++ exception_text view)
+use Rattle.report.specs.Lines.{vm_line, end_line, core_on_line, core_off_line, core_parked_line, console_line, memory_line, done_line}
+use Rattle.report.specs.Registers.{registers_text}
 
 -- a core that the machine doesn't have is off
 abbrev pub power_line : ℕ → Option Power → List ℕ

@@ -16,6 +16,7 @@ mod line;
 mod lines;
 mod packing;
 mod refusal;
+mod registers;
 mod section;
 mod status;
 mod summary;

@@ -9,18 +9,16 @@ ghost use Rattle.bao_config.specs.Data.{vm_data};
 ghost use Rattle.bao_wellformed.specs.Map.{map_of};
 ghost use Rattle.bao_wellformed.specs.ByteRules.{kind_in};
 ghost use Rattle.hypervisor.specs.Hyp.{stands_for};
-ghost use Rattle.report.specs.Section.{vm_text, cores_text, core_text, consoles_text, console_text, memory_text, all_groups, is_memory, are_zero, registers_text, program_text, stack_text, exception_text, return_text, fault_text, control_text, x_text, run_of};
+ghost use Rattle.report.specs.Section.{vm_text, cores_text, core_text, consoles_text, console_text, memory_text, all_groups, is_memory, are_zero, run_of};
 ghost use Rattle.report.specs.Groups.{alike_text, groups_text, plain_group, IsBeside};
 
-use crate::lines::{
-    put_byte, put_console_head, put_core, put_end, put_memory, put_nonzero, put_register, put_vm,
-    put_x,
-};
+use crate::lines::{put_byte, put_console_head, put_core, put_end, put_memory, put_vm};
+use crate::registers::write_registers;
 use arrayvec::ArrayVec;
 use bao_config::{Config, Dev, Vm};
 use bao_types::ADDRESS_SPACE_END;
 use bao_wellformed::{Kind, MapEntry, kind_in, map_of};
-use board::{Board, CoreView};
+use board::Board;
 use hypervisor::Hyp;
 use outside::{Sink, SinkFailed};
 
@@ -92,91 +90,6 @@ fn write_core<K: Sink, B: Board>(
 {
     put_core(sink, j, hyp.power_of_core(core))?;
     write_registers(sink, &board.core_view(core))
-}
-
-/// The registers of a core.
-#[tactic(auto, using(outside::proofs::Puts::in_parts), unfolding(crate::specs::Section::registers_text))]
-fn write_registers<K: Sink>(sink: &mut K, view: &CoreView) -> Result<(), SinkFailed>
-    ensures taken { Takes (K.taken sink.old) (K.taken sink.new) (registers_text view.now) result }
-    ensures cause { HasCause (K.faults sink.old) (K.faults sink.new) result }
-{
-    write_program(sink, view)?;
-    write_x(sink, &view.x)?;
-    write_exception(sink, view)
-}
-
-/// PC, PSTATE and the stack pointers.
-#[tactic(auto, using(outside::proofs::Puts::in_parts), unfolding(crate::specs::Section::program_text))]
-fn write_program<K: Sink>(sink: &mut K, view: &CoreView) -> Result<(), SinkFailed>
-    ensures taken { Takes (K.taken sink.old) (K.taken sink.new) (program_text view.now) result }
-    ensures cause { HasCause (K.faults sink.old) (K.faults sink.new) result }
-{
-    put_register(sink, b"pc", 16, view.pc)?;
-    put_register(sink, b"pstate", 8, u64::from(view.pstate))?;
-    write_stack(sink, view)
-}
-
-/// The stack pointers that aren't zero.
-#[tactic(auto, using(outside::proofs::Puts::in_parts), unfolding(crate::specs::Section::stack_text))]
-fn write_stack<K: Sink>(sink: &mut K, view: &CoreView) -> Result<(), SinkFailed>
-    ensures taken { Takes (K.taken sink.old) (K.taken sink.new) (stack_text view.now) result }
-    ensures cause { HasCause (K.faults sink.old) (K.faults sink.new) result }
-{
-    put_nonzero(sink, b"sp_el0", view.sp0)?;
-    put_nonzero(sink, b"sp_el1", view.sp1)
-}
-
-/// The registers of exceptions at EL1 that aren't zero.
-#[tactic(auto, using(outside::proofs::Puts::in_parts), unfolding(crate::specs::Section::exception_text))]
-fn write_exception<K: Sink>(sink: &mut K, view: &CoreView) -> Result<(), SinkFailed>
-    ensures taken { Takes (K.taken sink.old) (K.taken sink.new) (exception_text view.now) result }
-    ensures cause { HasCause (K.faults sink.old) (K.faults sink.new) result }
-{
-    write_return(sink, view)?;
-    write_fault(sink, view)?;
-    write_control(sink, view)
-}
-
-/// What an exception returns to.
-#[tactic(auto, using(outside::proofs::Puts::in_parts), unfolding(crate::specs::Section::return_text))]
-fn write_return<K: Sink>(sink: &mut K, view: &CoreView) -> Result<(), SinkFailed>
-    ensures taken { Takes (K.taken sink.old) (K.taken sink.new) (return_text view.now) result }
-    ensures cause { HasCause (K.faults sink.old) (K.faults sink.new) result }
-{
-    put_nonzero(sink, b"elr_el1", view.elr)?;
-    put_nonzero(sink, b"spsr_el1", view.spsr)
-}
-
-/// What an exception says of its cause.
-#[tactic(auto, using(outside::proofs::Puts::in_parts), unfolding(crate::specs::Section::fault_text))]
-fn write_fault<K: Sink>(sink: &mut K, view: &CoreView) -> Result<(), SinkFailed>
-    ensures taken { Takes (K.taken sink.old) (K.taken sink.new) (fault_text view.now) result }
-    ensures cause { HasCause (K.faults sink.old) (K.faults sink.new) result }
-{
-    put_nonzero(sink, b"esr_el1", view.esr)?;
-    put_nonzero(sink, b"far_el1", view.far)
-}
-
-/// What governs EL1.
-#[tactic(auto, using(outside::proofs::Puts::in_parts), unfolding(crate::specs::Section::control_text))]
-fn write_control<K: Sink>(sink: &mut K, view: &CoreView) -> Result<(), SinkFailed>
-    ensures taken { Takes (K.taken sink.old) (K.taken sink.new) (control_text view.now) result }
-    ensures cause { HasCause (K.faults sink.old) (K.faults sink.new) result }
-{
-    put_nonzero(sink, b"vbar_el1", view.vbar)?;
-    put_nonzero(sink, b"sctlr_el1", view.sctlr)
-}
-
-/// The general registers that aren't zero.
-#[tactic(auto, using(crate::proofs::Texts::x_begins, crate::proofs::Texts::x_goes_on, crate::proofs::Texts::x_stops, crate::proofs::Texts::x_ends))]
-fn write_x<K: Sink>(sink: &mut K, values: &[u64; 31]) -> Result<(), SinkFailed>
-    ensures taken { Takes (K.taken sink.old) (K.taken sink.new) (x_text 0 values.now) result }
-    ensures cause { HasCause (K.faults sink.old) (K.faults sink.new) result }
-{
-    for (n, value) in values.iter().enumerate() {
-        put_x(sink, n as u8, *value)?;
-    }
-    Ok(())
 }
 
 /// What the consoles among a VM's devs have put out, in their order.
