@@ -19,7 +19,7 @@ use Rattle.a64_asm.specs.Register.{named}
 use Rattle.a64_asm.specs.Mnemonic.{name_of}
 use Rattle.a64_asm.specs.Listing.{registers_text, transfer_form, form_of, raw_text, text_of, line_of_word, word_at, words_of, listing, is_image_length}
 use Rattle.a64_asm.specs.Reading.{transfer_of}
-use Rattle.a64_asm.specs.Source.{label_in, label_of, is_word, next_of, beginning, lines_of, definitions, word_said, within_limit, judged_by, judged, broken_by, bytes_of, bytes_in, Image, unless_bad, assembled_from, assembled}
+use Rattle.a64_asm.specs.Source.{label_in, label_of, is_word, next_of, beginning, lines_of, definitions, word_said, image_limit, within_limit, judged_by, judged, broken_by, bytes_of, bytes_in, Image, unless_bad, assembled_from, assembled}
 use Rattle.a64_asm.specs.declared.label.Definition.{Definition}
 use Rattle.a64_asm.specs.declared.said.Said.{Said}
 use Rattle.a64_asm.specs.declared.said.Said.TheVariants.{Instruction, Raw}
@@ -146,7 +146,7 @@ form_line _ kept = tt
 
 -- the line of a word says that word, and is one
 pub record IsReadBack (text : List ℕ) (word : ℕ) : Type 0 where
-  pub judged_is : (labels : List ℕ → Option Definition) (here : Definition) → here.place < 262144 → judged labels here text ≡ Ok (Some word)
+  pub judged_is : (labels : List ℕ → Option Definition) (here : Definition) → here.place < image_limit / 4 → judged labels here text ≡ Ok (Some word)
   pub counts : is_word text ≡ true
   pub one : has_no 10 text ≡ true
 
@@ -168,7 +168,7 @@ read_back text said word line is =
           ap (λ b. if b then Ok None else judged_by labels here text (label_of text)) line.begins
           ∙ ap (judged_by labels here text) (no_label text line.hushed)
           ∙ ap (within_limit here.place) (line.read labels here.place)
-          ∙ ap (λ b. if b then Ok (Some (word_said said)) else Err 5) (lt-ltb here.place 262144 low)
+          ∙ ap (λ b. if b then Ok (Some (word_said said)) else Err 5) (lt-ltb here.place (image_limit / 4) low)
           ∙ ap (λ w. Ok (Some w)) is;
       counts = rw (line.begins, no_label text line.hushed) refl;
       one = weaker is_quiet (λ b. not (b == 10)) quiet_lines text line.hushed;
@@ -206,7 +206,7 @@ some_parts (word ∷ words) = omega arith
 next_place : (here : Definition) (text : List ℕ) → is_word text ≡ true → (next_of here text).place ≡ here.place + 1
 next_place here text counts = rw counts refl
 
-words_back : (labels : List ℕ → Option Definition) (words bytes : List ℕ) (here : Definition) → AreWords words → here.place + length words ≤ 262144
+words_back : (labels : List ℕ → Option Definition) (words bytes : List ℕ) (here : Definition) → AreWords words → here.place + length words ≤ image_limit / 4
     → assembled_from labels bytes here (parts_of words) ≡ Image (bytes ++ flat_map bytes_of words)
 unfolding assembled_from
 words_back labels [] bytes here small room = ap Image (sym (append-nil bytes))
@@ -257,9 +257,9 @@ whole_image (a ∷ b ∷ c ∷ d ∷ rest) bytes whole =
 pub reads_back : (image : List ℕ) → AreBytes image → is_image_length (length image) ≡ true → assembled (listing image) ≡ Image image
 unfolding assembled listing
 reads_back image bytes lawful =
-    let facts = and_parts (length image % 4 == 0) (nat_le (length image) 1048576) lawful in
+    let facts = and_parts (length image % 4 == 0) (nat_le (length image) image_limit) lawful in
     let whole = whole_image image bytes (eqb-true (length image % 4) 0 facts.0) in
-    let few : length image ≤ 1048576 = leb-true (length image) 1048576 facts.1 in
+    let few : length image ≤ image_limit = leb-true (length image) image_limit facts.1 in
     ap (assembled_from (definitions (listing image)) [] beginning) (lines_back (words_of image) whole.small)
     ∙ words_back (definitions (listing image)) (words_of image) [] beginning whole.small (omega (arith, whole.count, few))
     ∙ ap Image whole.back

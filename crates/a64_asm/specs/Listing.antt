@@ -22,6 +22,7 @@ use Rattle.a64_asm.specs.Text.{comma}
 use Rattle.a64_asm.specs.Number.{hex, offset_text}
 use Rattle.a64_asm.specs.Register.{register_text}
 use Rattle.a64_asm.specs.Mnemonic.{name_of}
+use Rattle.a64_asm.specs.Source.{image_limit}
 use Rattle.a64_asm.specs.declared.error.ListError.{ListError}
 use Rattle.a64_asm.specs.declared.error.ListError.TheVariants.{BadLength, OutOfMemory}
 use Rattle.a64_asm.specs.declared.mnemonic.Mnemonic.{Mnemonic}
@@ -184,9 +185,9 @@ words_of _ = []
 unfoldable pub listing : List ℕ → List ℕ
 listing image = flat_map line_of_word (words_of image)
 
--- whole words, of a mebibyte at most
+-- whole words, and not too many
 abbrev pub is_image_length : ℕ → Bool
-is_image_length len = (len % 4 == 0) && nat_le len 1048576
+is_image_length len = (len % 4 == 0) && nat_le len image_limit
 
 -- what a function leaves that writes this text, where there is one, behind what it had
 abbrev pub Pushes : Option (List ℕ) → List ℕ → List ℕ → Bool → Type 0

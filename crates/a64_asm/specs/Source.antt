@@ -70,10 +70,14 @@ abbrev pub word_said : Said → ℕ
 word_said (Instruction instr) = encoded instr
 word_said (Raw word) = word
 
--- 5: an image has a mebibyte at most
+-- the most bytes of an image: a mebibyte
+abbrev pub image_limit : ℕ
+image_limit = 1048576
+
+-- 5: an image has no more words than that
 abbrev pub within_limit : ℕ → Result Said ℕ → Result (Option ℕ) ℕ
 within_limit place (Err rule) = Err rule
-within_limit place (Ok said) = if nat_lt place 262144 then Ok (Some (word_said said)) else Err 5
+within_limit place (Ok said) = if nat_lt place (image_limit / 4) then Ok (Some (word_said said)) else Err 5
 
 -- 4: a label that an earlier line defines
 abbrev pub judged_by : (List ℕ → Option Definition) → Definition → List ℕ → Option (List ℕ) → Result (Option ℕ) ℕ

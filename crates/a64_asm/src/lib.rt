@@ -21,4 +21,4 @@ mod write;
 pub use error::{AsmError, ListError};
 pub use law::{a_line_gives_the_word_of_its_instruction, a_listing_gives_its_image_back};
 pub use listing::list;
-pub use source::assemble;
+pub use source::{IMAGE_LIMIT, assemble};

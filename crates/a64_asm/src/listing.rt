@@ -9,6 +9,7 @@ ghost use Rattle.a64_asm.specs.Listing.{phrase, move_text, add_text, registers_t
 
 use crate::error::ListError;
 use crate::mnemonic::{Mnemonic, name};
+use crate::source::IMAGE_LIMIT;
 use crate::write::{
     push_decimal, push_hex, push_name, push_offset, push_operand, push_register, push_text,
 };
@@ -380,7 +381,7 @@ pub fn list(alloc: Global, image: &[u8]) -> Result<Vec<u8>, ListError>
 fn is_image_length(len: usize) -> bool
     ensures { result ≡ is_image_length len }
 {
-    len % 4 == 0 && len <= 1_048_576
+    len % 4 == 0 && len <= IMAGE_LIMIT as usize
 }
 
 /// A line for each word.

@@ -13,6 +13,9 @@ use crate::text::cut_at;
 use a64_encode::encode;
 use std::alloc::{AllocError, Global};
 
+/// The most bytes of an image: a mebibyte.
+pub const IMAGE_LIMIT: u32 = 1_048_576;
+
 /// How far a source has been read.
 #[derive(Drop)]
 pub struct Progress {
@@ -128,7 +131,7 @@ fn judge_word(labels: &Labels<'_>, place: u32, line: &[u8]) -> Result<Option<u32
         Err(rule) => Err(rule),
         Ok(said) => {
             let word = word_of(&said);
-            if place < 262_144 {
+            if place < IMAGE_LIMIT / 4 {
                 Ok(Some(word))
             } else {
                 Err(5)

@@ -10,9 +10,10 @@ use Rattle.outside.specs.Sink.{Takes, HasCause}
 use Rattle.outside.specs.Use.{ShelfUse, SinkUse, IsFaultless, IsPut}
 use Rattle.outside.proofs.Told.{every, follows}
 use Rattle.outside.specs.declared.sink.SinkFailed.{SinkFailed}
+use Rattle.a64_asm.specs.Source.{image_limit}
 use Rattle.asm_run.specs.Words.{Command, Assemble, Show, Unknown, Names, command_of}
 use Rattle.asm_run.specs.Call.{Call}
-use Rattle.asm_run.specs.Ruling.{Ruling, Made, Refused, rule_content, rule_command, rule_file}
+use Rattle.asm_run.specs.Ruling.{Ruling, Made, Refused, source_limit, rule_content, rule_command, rule_file}
 use Rattle.asm_run.specs.Outcome.{HasMade, Outcome}
 use Rattle.asm_run.specs.Status.{refusal_text}
 use Rattle.asm_run.specs.Made.{IsMade, IsGiven, IsShown, status_of}
@@ -80,20 +81,20 @@ pub made_image : (use_of : ShelfUse) (name content : List ℕ) (result : Result 
     → IsMade (Assemble name) use_of result
 made_image use_of name content result told read given = made_of (Assemble name) use_of name (λ files. refl) content result refl told read given
 
-pub no_image : (use_of : ShelfUse) (name : List ℕ) (error : ShelfError) → IsFetched use_of.held name 16777216 (Err error)
-    → Blames {T = Vec ℕ Global} use_of.before use_of.after name (Err error) → IsMade (Assemble name) use_of (Err (status_of 16777216 error))
+pub no_image : (use_of : ShelfUse) (name : List ℕ) (error : ShelfError) → IsFetched use_of.held name source_limit (Err error)
+    → Blames {T = Vec ℕ Global} use_of.before use_of.after name (Err error) → IsMade (Assemble name) use_of (Err (status_of source_limit error))
 no_image use_of name error fetched blames =
-    not_had (Assemble name) use_of name (λ files. refl) 16777216 error refl (λ content long. long_test 16777216 content _ long) fetched blames
+    not_had (Assemble name) use_of name (λ files. refl) source_limit error refl (λ content long. long_test source_limit content _ long) fetched blames
 
 pub made_listing : (use_of : ShelfUse) (name content : List ℕ) (result : Result (Vec ℕ Global) AsmStatus)
     → IfTold use_of.held name (λ found. found ≡ Some content) → IsFaultless use_of → IsGiven (Show name) content result
     → IsMade (Show name) use_of result
 made_listing use_of name content result told read given = made_of (Show name) use_of name (λ files. refl) content result refl told read given
 
-pub no_listing : (use_of : ShelfUse) (name : List ℕ) (error : ShelfError) → IsFetched use_of.held name 1048576 (Err error)
-    → Blames {T = Vec ℕ Global} use_of.before use_of.after name (Err error) → IsMade (Show name) use_of (Err (status_of 1048576 error))
+pub no_listing : (use_of : ShelfUse) (name : List ℕ) (error : ShelfError) → IsFetched use_of.held name image_limit (Err error)
+    → Blames {T = Vec ℕ Global} use_of.before use_of.after name (Err error) → IsMade (Show name) use_of (Err (status_of image_limit error))
 no_listing use_of name error fetched blames =
-    not_had (Show name) use_of name (λ files. refl) 1048576 error refl (λ content long. long_test 1048576 content _ long) fetched blames
+    not_had (Show name) use_of name (λ files. refl) image_limit error refl (λ content long. long_test image_limit content _ long) fetched blames
 
 -- what a put leaves
 pub put_by : (sink : SinkUse) (text : List ℕ) (result : Result (Unit {0}) SinkFailed)

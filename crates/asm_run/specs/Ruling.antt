@@ -2,7 +2,7 @@
 use Rattle.std.specs.Prelude.{ℕ, nat_lt, if◌then◌else◌, List, Option, None, Some, length}
 use Rattle.outside.specs.Shelf.{Files}
 use Rattle.a64_asm.specs.Listing.{listing, is_image_length}
-use Rattle.a64_asm.specs.Source.{Assembled, Image, Broken, assembled}
+use Rattle.a64_asm.specs.Source.{Assembled, Image, Broken, assembled, image_limit}
 use Rattle.asm_run.specs.Words.{Command, Assemble, Show, Unknown, command_of}
 use Rattle.asm_run.specs.declared.status.AsmStatus.{AsmStatus}
 use Rattle.asm_run.specs.declared.status.AsmStatus.TheVariants as status
@@ -13,12 +13,9 @@ pub data Ruling : Type 0 where
   Refused : (status : AsmStatus) → Ruling
   Missing : Ruling
 
--- what a file may have at most: 16 MiB of a source, 1 MiB of an image
+-- what a source may have at most: 16 MiB; an image has its own limit
 abbrev pub source_limit : ℕ
 source_limit = 16777216
-
-abbrev pub image_limit : ℕ
-image_limit = 1048576
 
 abbrev pub rule_source : Assembled → Ruling
 rule_source (Image bytes) = Made bytes

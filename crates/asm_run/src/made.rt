@@ -1,20 +1,19 @@
 //! What is made of a file, before anything is written.
 ghost use Rattle.std.specs.Prelude.{◌≡◌, ◌≤◌, ◌<◌, length, map, string_bytes};
 ghost use Rattle.outside.specs.Use.{shelf_use};
+ghost use Rattle.a64_asm.specs.Source.{image_limit};
+ghost use Rattle.asm_run.specs.Ruling.{source_limit};
 ghost use Rattle.asm_run.specs.Words.{command_of, Assemble, Show};
 ghost use Rattle.asm_run.specs.Made.{IsMade, IsGiven, status_of};
 
 use crate::status::AsmStatus;
 use crate::words::{Command, read_words};
-use a64_asm::{AsmError, ListError, assemble, list};
+use a64_asm::{AsmError, IMAGE_LIMIT, ListError, assemble, list};
 use outside::{Shelf, ShelfError};
 use std::alloc::Global;
 
 /// What a source may have at most.
 const SOURCE_LIMIT: u32 = 16_777_216;
-
-/// What an image may have at most.
-const IMAGE_LIMIT: u32 = 1_048_576;
 
 /// What the words ask for, made of the file that they name.
 #[tactic(auto, using(crate::proofs::Making::unknown))]
@@ -44,7 +43,7 @@ fn make_image<S: Shelf>(alloc: Global, shelf: &mut S, file: &str) -> Result<Vec<
 
 /// The image that a source gives.
 fn image_of(alloc: Global, source: &[u8], file: &str) -> Result<Vec<u8>, AsmStatus>
-    requires { length source.now ≤ 16777216 }
+    requires { length source.now ≤ source_limit }
     ensures { IsGiven (Assemble file.now) source.now result }
 {
     match assemble(alloc, source) {
@@ -66,7 +65,7 @@ fn make_listing<S: Shelf>(alloc: Global, shelf: &mut S, file: &str) -> Result<Ve
 
 /// The listing that an image gives.
 fn listing_of(alloc: Global, image: &[u8], file: &str) -> Result<Vec<u8>, AsmStatus>
-    requires { length image.now ≤ 1048576 }
+    requires { length image.now ≤ image_limit }
     ensures { IsGiven (Show file.now) image.now result }
 {
     match list(alloc, image) {
