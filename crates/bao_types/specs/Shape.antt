@@ -10,6 +10,10 @@ use Rattle.bao_types.specs.declared.shape.Shape.{Shape}
 abbrev pub event_limit : ℕ
 event_limit = 1000000
 
+-- the most memory that the banks may have together: 64 MiB
+abbrev pub memory_limit : ℕ
+memory_limit = 0x4000000
+
 -- the number of bytes of a device port
 abbrev pub port_size : ℕ
 port_size = 64

@@ -17,7 +17,7 @@ pub use memory::OutOfMemory;
 pub use range::{ADDRESS_SPACE_END, ByteRange};
 pub use region::{BASE_MASK, LIMIT_MASK, Region, RegionFile};
 pub use region_match::RegionMatch;
-pub use shape::{CorePlace, EVENT_LIMIT, PORT_SIZE, PortSpot, Shape, is_port};
+pub use shape::{CorePlace, EVENT_LIMIT, MEMORY_LIMIT, PORT_SIZE, PortSpot, Shape, is_port};
 pub use sum::Sum;
 pub use sys_id::SysId;
 

@@ -10,6 +10,9 @@ pub const PORT_SIZE: u64 = 64;
 /// The most events that a board takes.
 pub const EVENT_LIMIT: u32 = 1_000_000;
 
+/// The most memory that the banks may have together: 64 MiB.
+pub const MEMORY_LIMIT: u64 = 0x400_0000;
+
 /// One physical core of the board.
 #[derive(Clone, Copy, Debug, Default, PartialEq, Eq)]
 pub struct CorePlace {

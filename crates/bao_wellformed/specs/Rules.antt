@@ -4,7 +4,7 @@ use Rattle.std.specs.Prelude.{ℕ, ◌+◌, ◌-◌, ◌*◌, ◌==◌, nat_le, 
 use Rattle.std.specs.List.{list_any}
 use Rattle.std.specs.Cmp.Lexicographic.{pointwise}
 use Rattle.bao_types.specs.declared.range.ByteRange.{ByteRange}
-use Rattle.bao_types.specs.Shape.{port_range}
+use Rattle.bao_types.specs.Shape.{memory_limit, port_range}
 use Rattle.bao_config.specs.declared.config.Shmem.{Shmem}
 use Rattle.bao_config.specs.declared.config.Dev.{Dev}
 use Rattle.bao_config.specs.Data.{ConfigData, VmData, IpcData}
@@ -37,10 +37,6 @@ abbrev pub rule_1 : ConfigData → List Ill
 rule_1 cfg =
     map (λ range. record (broken 1) { first = range })
     (filter (λ range. nat_lt address_space_end (end range)) (all_ranges cfg))
-
--- the most memory that the banks may have together: 64 MiB
-abbrev pub memory_limit : ℕ
-memory_limit = 0x4000000
 
 -- the bank at which the sizes pass the limit, if they do, where `total` is the size of the banks before
 abbrev pub passing_bank : ℕ → List ByteRange → List ByteRange

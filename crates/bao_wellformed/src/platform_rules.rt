@@ -10,11 +10,8 @@ ghost use Rattle.bao_wellformed.specs.Rules.{all_ranges, vm_ranges, rule_1, rule
 use crate::Ill;
 use crate::ranges::{distributor, lies_in_a_bank, port_range, redistributors};
 use bao_config::{Config, PortPlace, Shmem, Vm};
-use bao_types::{ADDRESS_SPACE_END, ByteRange};
+use bao_types::{ADDRESS_SPACE_END, ByteRange, MEMORY_LIMIT};
 use std::alloc::{AllocError, Global};
-
-/// The most memory that the banks may have together: 64 MiB.
-const MEMORY_LIMIT: u64 = 0x400_0000;
 
 /// 1: no range ends above 2^48.
 pub(crate) fn rule_1(alloc: Global, config: &Config) -> Result<Option<Ill>, AllocError>

@@ -5,7 +5,7 @@ use Rattle.bao_types.specs.declared.region.Region.{Region}
 use Rattle.bao_types.specs.ByteRange.{address_space_end, end, is_in_one, lies_in, overlaps}
 use Rattle.bao_types.specs.Region.{no_region, access_permission, covers, is_enabled, is_execute_never}
 use Rattle.bao_types.specs.declared.shape.PortSpot.{PortSpot}
-use Rattle.bao_types.specs.Shape.{ShapeData, event_limit, port_range, port_size}
+use Rattle.bao_types.specs.Shape.{ShapeData, event_limit, memory_limit, port_range, port_size}
 use Rattle.bao_types.specs.ListReg.{ListRegData, free_registers}
 use Rattle.a64_state.specs.Core.{CoreData}
 use Rattle.a64_state.specs.Registers.{reset_core}
@@ -62,7 +62,7 @@ pub record IsFittable (shape : ShapeData) : Type 0 where
   pub bank_count : length shape.banks ≤ 8
   pub banks_apart : AllPairs (λ one other. IsFalse (overlaps one other)) shape.banks
   pub bank_ends : All (λ bank. end bank ≤ address_space_end) shape.banks
-  pub bank_sizes : sum (map (λ bank. bank.size) shape.banks) ≤ 0x4000000
+  pub bank_sizes : sum (map (λ bank. bank.size) shape.banks) ≤ memory_limit
   pub port_numbers : All (λ port. port.id < port_count) shape.ports
   pub port_bases : All (λ port. port.base % port_size ≡ 0) shape.ports
   pub used : All (λ range. IsTrue (list_any (lies_in range) shape.banks)) shape.used

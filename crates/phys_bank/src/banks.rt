@@ -3,6 +3,7 @@ ghost use Rattle.std.specs.Prelude.{◌≡◌, ℕ, ◌+◌, ◌^◌, ◌<◌, �
 ghost use Rattle.std.specs.List.{AllPairs, list_any};
 ghost use Rattle.bao_types.specs.ByteRange.{address_space_end, end, is_in_one, lies_in, overlaps};
 ghost use Rattle.bao_types.specs.Bytes.{IsWidth, little_endian, low_bytes};
+ghost use Rattle.bao_types.specs.Shape.{memory_limit};
 ghost use Rattle.phys_bank.specs.Banks.{byte_at, bytes_from, is_kept, IsWritten};
 ghost use Rattle.phys_bank.specs.Directory.{is_page};
 ghost use Rattle.phys_bank.specs.Pages.{shares_page};
@@ -43,7 +44,7 @@ impl Banks {
         requires count { length banks.now ≤ 8 }
         requires ends { All (λ bank. end bank ≤ address_space_end) banks.now }
         requires apart { AllPairs (λ one other. IsFalse (overlaps one other)) banks.now }
-        requires total { sum (map (λ bank. bank.size) banks.now) ≤ 0x4000000 }
+        requires total { sum (map (λ bank. bank.size) banks.now) ≤ memory_limit }
         ensures zero { IfOk result (λ made. byte_at made ≡ (λ at. 0)) }
         ensures pages { IfOk result (λ made. is_kept made ≡ shares_page banks.now used.now) }
         ensures used { IfOk result (λ made. All (λ range. IsTrue (list_any (lies_in range) banks.now)) used.now

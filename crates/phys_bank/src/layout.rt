@@ -1,6 +1,7 @@
 //! The banks' pages, one bank's behind the other's.
 ghost use Rattle.std.specs.Prelude.{◌≡◌, ◌≤◌, All, length, map, sum};
 ghost use Rattle.bao_types.specs.ByteRange.{address_space_end, end};
+ghost use Rattle.bao_types.specs.Shape.{memory_limit};
 ghost use Rattle.phys_bank.specs.Places.{AreLaid, ranges_of, total_pages};
 
 use crate::bank_place::BankPlace;
@@ -11,7 +12,7 @@ use bao_types::ByteRange;
 pub(crate) fn lay_out(banks: &[ByteRange]) -> (ArrayVec<BankPlace, 8>, usize)
     requires count { length banks.now ≤ 8 }
     requires ends { All (λ bank. end bank ≤ address_space_end) banks.now }
-    requires total { sum (map (λ bank. bank.size) banks.now) ≤ 0x4000000 }
+    requires total { sum (map (λ bank. bank.size) banks.now) ≤ memory_limit }
     ensures ranges { ranges_of result.0.items ≡ banks.now }
     ensures laid { AreLaid 0 result.0.items }
     ensures total { result.1 ≡ total_pages result.0.items }

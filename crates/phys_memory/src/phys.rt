@@ -1,6 +1,7 @@
 //! `Phys` and its calls. A clause sees a block as the list of its bytes.
 ghost use Rattle.std.specs.Prelude.{◌≡◌, ℕ, ◌+◌, ◌^◌, ◌<◌, ◌≤◌, ◌++◌, length, take, drop, slice_index, slice_set, slice_range, IfOk};
 ghost use Rattle.bao_types.specs.Bytes.{IsWidth, little_endian, low_bytes};
+ghost use Rattle.bao_types.specs.Shape.{memory_limit};
 
 use crate::block::{allocate, deallocate};
 use crate::cells::{Base, Cells, Deed};
@@ -47,7 +48,7 @@ impl Phys {
     /// A block of `len` bytes, all of them 0, or `OutOfMemory` where the allocator has none left. A block of no
     /// bytes works like any other.
     pub fn new(alloc: Global, len: u64) -> Result<Phys, OutOfMemory>
-        requires { len ≤ 0x4000000 }
+        requires { len ≤ memory_limit }
         ensures size { IfOk result (λ phys. length phys ≡ len) }
         ensures zero { IfOk result (λ phys. (at : ℕ) → slice_index phys at ≡ 0) }
     {
@@ -66,7 +67,7 @@ impl Phys {
     /// How many bytes the block has.
     pub fn len(&self) -> u64
         ensures value { result ≡ length self.now }
-        ensures bound { result ≤ 0x4000000 }
+        ensures bound { result ≤ memory_limit }
     {
         self.len as u64
     }

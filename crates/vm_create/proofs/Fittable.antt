@@ -10,14 +10,14 @@ use Rattle.std.proofs.lemmas.List.Elements.{All-append, All-cons, All-head, All-
 use Rattle.std.proofs.lemmas.Option.{slice_get-get_or, slice_get_within}
 use Rattle.bao_types.specs.declared.range.ByteRange.{ByteRange}
 use Rattle.bao_types.specs.ByteRange.{address_space_end, end, lies_in, overlaps}
-use Rattle.bao_types.specs.Shape.{event_limit, port_range, port_size}
+use Rattle.bao_types.specs.Shape.{event_limit, port_range, port_size, memory_limit}
 use Rattle.bao_config.specs.declared.config.PortPlace.{PortPlace}
 use Rattle.bao_config.specs.Bounds.{IsInBounds, entries}
 use Rattle.bao_config.specs.Data.{ConfigData, VmData}
 use Rattle.bao_config.specs.Fits.{ConfigFits, PortFits}
 use Rattle.bao_wellformed.specs.Break.{indexed}
 use Rattle.bao_wellformed.specs.Laws.{IsVm}
-use Rattle.bao_wellformed.specs.Rules.{all_ranges, are_too_near, distributor, frame, lies_in_a_bank, memory_limit, passing_bank, pieces, plain, redistributors, regions_outside, vm_ranges}
+use Rattle.bao_wellformed.specs.Rules.{all_ranges, are_too_near, distributor, frame, lies_in_a_bank, passing_bank, pieces, plain, redistributors, regions_outside, vm_ranges}
 use Rattle.bao_wellformed.specs.WellFormed.{IsWellFormed}
 use Rattle.bao_wellformed.proofs.Empty.{all_fail, any_got, indexed_got, left_got, map_empty, map_got, none_in_each, none_passes, none_passes_in}
 use Rattle.bao_wellformed.proofs.Kept.{IsKept, kept}
