@@ -3,6 +3,7 @@
 use Rattle.std.specs.Prelude.{◌≡◌, ℕ, ◌+◌, ◌*◌, ◌^◌, ◌<◌, ◌==◌, Option, Some, None, Bool, true, false, IsTrue, IsFalse, if◌then◌else◌}
 use Rattle.bao_types.specs.Bytes.{IsWidth}
 use Rattle.bao_types.specs.declared.sys_id.SysId.{SysId}
+use Rattle.bao_types.specs.Controller.{id_end}
 use Rattle.a64_state.specs.Core.{CoreData}
 use Rattle.a64_state.specs.Registers.{level, x_of}
 use Rattle.a64_decode.specs.declared.instr.Instr.{Instr}
@@ -13,7 +14,6 @@ use Rattle.a64_decode.specs.declared.operand.Reg.{Reg}
 use Rattle.a64_alu.specs.Results.{low_x}
 use Rattle.a64_address.specs.declared.shape.MemShape.{MemShape}
 use Rattle.a64_address.specs.Shape.{memory_shape, IsCount}
-use Rattle.vgic_iface.specs.Rank.{id_end}
 use Rattle.a64_sysreg.specs.Table.{acknowledges}
 use Rattle.a64_sysreg.specs.Access.{may_read, write_answer}
 use Rattle.a64_sysreg.specs.declared.access.SysWrite.{SysWrite}

@@ -3,8 +3,8 @@ use Rattle.std.proofs.Common.{arith, ◌≡◌, ℕ, Bool, true, false, refl, su
 use Rattle.std.specs.Prelude.{nat_lt, ◌<◌, if◌then◌else◌, Option, Some, None}
 use Rattle.std.proofs.lemmas.Bool.Decides.{nat_tests}
 use Rattle.bao_types.specs.declared.sys_id.SysId.{SysId}
+use Rattle.bao_types.specs.Controller.{id_end}
 use Rattle.a64_state.specs.Core.{CoreData}
-use Rattle.vgic_iface.specs.Rank.{id_end}
 use Rattle.a64_sysreg.specs.declared.register.Register.{Register}
 use Rattle.a64_sysreg.specs.declared.register.Register.TheVariants.{IccEoir1}
 use Rattle.a64_sysreg.specs.declared.access.SysWrite.{SysWrite}

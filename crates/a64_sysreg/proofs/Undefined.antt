@@ -2,9 +2,9 @@
 use Rattle.std.proofs.Common.{◌≡◌, ◌≢◌, ◌↔◌, ℕ, Bool, true, false, IsTrue, IsFalse, refl}
 use Rattle.std.specs.Prelude.{◌==◌, nat_lt, if◌then◌else◌, Option, Some, None}
 use Rattle.bao_types.specs.declared.sys_id.SysId.{SysId}
+use Rattle.bao_types.specs.Controller.{id_end}
 use Rattle.a64_state.specs.Core.{CoreData}
 use Rattle.a64_state.specs.Pstate.{mode}
-use Rattle.vgic_iface.specs.Rank.{id_end}
 use Rattle.a64_sysreg.specs.declared.moment.Moment.{Moment}
 use Rattle.a64_sysreg.specs.declared.register.Register.{Register}
 use Rattle.a64_sysreg.specs.declared.register.Register.TheVariants.{Midr, Mpuir, Mpidr, Identification, CurrentEl, IccRpr, IccSgi1r, IccIar1, IccEoir1, IccHppir1, Ctr, Cntfrq, Cntvct}

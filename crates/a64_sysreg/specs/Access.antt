@@ -1,6 +1,7 @@
 -- What MRS and MSR do with the register that they name.
 use Rattle.std.specs.Prelude.{ℕ, ◌<◌, Bool, true, false, if◌then◌else◌, Option, Some, None}
 use Rattle.bao_types.specs.declared.sys_id.SysId.{SysId}
+use Rattle.bao_types.specs.Controller.{id_end}
 use Rattle.a64_state.specs.Core.{CoreData}
 use Rattle.a64_state.specs.Pstate.{mode}
 use Rattle.a64_sysreg.specs.declared.moment.Moment.{Moment}
@@ -9,7 +10,6 @@ use Rattle.a64_sysreg.specs.declared.access.SysRead.{SysRead}
 use Rattle.a64_sysreg.specs.declared.access.SysRead.TheVariants as read
 use Rattle.a64_sysreg.specs.declared.access.SysWrite.{SysWrite}
 use Rattle.a64_sysreg.specs.declared.access.SysWrite.TheVariants as write
-use Rattle.vgic_iface.specs.Rank.{id_end}
 use Rattle.a64_sysreg.specs.Row.{allows_read, allows_write}
 use Rattle.a64_sysreg.specs.Table.{row, register_of}
 

@@ -7,10 +7,10 @@ use Rattle.std.specs.Prelude.{◌≡◌, IsTrue, if◌then◌else◌, ◌+◌, �
 use Rattle.std.specs.List.{find}
 use Rattle.bao_types.specs.Bits.{field}
 use Rattle.bao_types.specs.declared.sys_id.SysId.{SysId}
+use Rattle.bao_types.specs.Controller.{id_end}
 use Rattle.a64_state.specs.Registers.{level}
 use Rattle.a64_state.specs.Pstate.{flags, daif, with_flags, with_daif}
 use Rattle.vgic_iface.specs.Active.{running}
-use Rattle.vgic_iface.specs.Rank.{id_end}
 use Rattle.pmsa_regs.specs.RegionRegs.{selected, with_select, with_base, with_limit}
 use Rattle.a64_sysreg.specs.declared.register.Register.{Register}
 use Rattle.a64_sysreg.specs.declared.register.Register.TheVariants.{Midr, Mpuir, Mpidr, Identification, Sctlr, Cpacr, Spsr, Elr, SpEl0, SpSel, CurrentEl, IccPmr, Esr, Far, Prselr, Prbar, Prlar, Mair, Vbar, IccRpr, IccSgi1r, IccIar1, IccEoir1, IccHppir1, IccBpr1, IccCtlr, IccSre, IccIgrpen1, Contextidr, Tpidr, Cntkctl, Ctr, Nzcv, Daif, TpidrEl0, TpidrroEl0, Cntfrq, Cntvct, CntvTval, CntvCtl, CntvCval}

@@ -5,10 +5,8 @@ ghost use Rattle.a64_sysreg.specs.Table.{row};
 
 use crate::{Moment, Register, SysWrite};
 use a64_state::{Core, Mode};
+use bao_types::ID_END;
 use pmsa_regs::{write_base, write_limit, write_select};
-
-/// The ids of a virtual core's interrupts lie below this.
-const ID_END: u64 = 96;
 
 /// Writes a register, as far as it may be written.
 #[tactic(auto, unfolding(crate::specs::Table::row))]
@@ -83,7 +81,7 @@ pub(crate) fn answer(register: Register, value: u64) -> SysWrite
 fn end(value: u64) -> SysWrite
     ensures { result ≡ (row Register.IccEoir1).answer value }
 {
-    if value < ID_END {
+    if value < u64::from(ID_END) {
         SysWrite::End(value as u16)
     } else {
         SysWrite::Done

@@ -12,7 +12,7 @@ pub struct TimerRegs {
 /// pending nor active. A core has four, which EL2 alone reaches, so they aren't among the registers of a guest.
 #[derive(Clone, Copy, Debug, PartialEq, Eq)]
 pub struct ListReg {
-    /// The interrupt's number, below 96.
+    /// The interrupt's number, below `ID_END`.
     pub id: u16,
     /// Bits 7 to 3 alone; a lower number comes first.
     pub priority: u8,
@@ -46,13 +46,14 @@ impl ListReg {
 
 impl Model for ListReg {
     ghost use Rattle.std.specs.Prelude.{◌≡◌, ◌<◌, ◌%◌};
+    ghost use Rattle.bao_types.specs.Controller.{id_end};
     ghost use Rattle.bao_types.specs.ListReg.{ListRegData};
 
     ghost Value = { ListRegData };
 
     ghost view = { λ r. record { id = r.id; priority = r.priority; pending = r.pending; active = r.active } };
 
-    ghost invariant = { λ r. (r.id < 96) × (r.priority % 8 ≡ 0) };
+    ghost invariant = { λ r. (r.id < id_end) × (r.priority % 8 ≡ 0) };
 
     ghost inverse = { λ d. record { id = d.id; priority = d.priority; pending = d.pending; active = d.active } };
 }

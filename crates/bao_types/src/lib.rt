@@ -9,6 +9,7 @@
 pub use access::{Access, Class, Verdict};
 pub use add::add_carry;
 pub use bits::field;
+pub use controller::ID_END;
 pub use interface::{IfaceRegs, ListReg, TimerRegs};
 pub use label::Label;
 pub use law::laws_of_ranges;
@@ -24,6 +25,7 @@ pub use sys_id::SysId;
 mod access;
 mod add;
 mod bits;
+mod controller;
 mod interface;
 mod label;
 mod law;

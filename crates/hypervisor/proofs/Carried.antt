@@ -7,6 +7,7 @@ use Rattle.std.proofs.lemmas.Bool.Decides.{nat_tests}
 use Rattle.std.proofs.lemmas.List.{set-get_or}
 use Rattle.bao_types.specs.IfaceRegs.{IfaceData}
 use Rattle.bao_types.specs.ListReg.{ListRegData}
+use Rattle.bao_types.specs.Controller.{id_end}
 use Rattle.bao_config.specs.Data.{ConfigData}
 use Rattle.bao_config.specs.Fits.{ConfigFits}
 use Rattle.bao_wellformed.specs.WellFormed.{IsWellFormed}
@@ -18,7 +19,6 @@ use Rattle.board.specs.declared.board.Exit.TheVariants as exit
 use Rattle.vgic_iface.specs.Interface.{best_listed, holds, is_unlisted, lists_acknowledged, lists_ended, with_holder}
 use Rattle.vgic_iface.specs.Interface.{made_inactive as list_inactive}
 use Rattle.vgic_iface.proofs.ListsLemmas.{with_holder-none}
-use Rattle.vgic_iface.specs.Rank.{id_end}
 use Rattle.vgic_table.specs.Interrupts.{Interrupts, best}
 use Rattle.vgic_table.specs.Changes.{after_acknowledge, after_end, made_inactive}
 use Rattle.vgic_table.specs.Cores.{IsCoreOf, joined_cores, lists_of}

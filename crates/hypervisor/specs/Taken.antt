@@ -1,6 +1,7 @@
 -- For private clauses: what an event does on the machine, and to what the hypervisor keeps.
 use Rattle.std.specs.Prelude.{◌≡◌, ℕ, ◌<◌, Bool, true, false, List, Option, None, Some, slice_get}
 use Rattle.bao_types.specs.ListReg.{ListRegData}
+use Rattle.bao_types.specs.Controller.{id_end}
 use Rattle.a64_state.specs.Core.{CoreData}
 use Rattle.bao_config.specs.Data.{ConfigData}
 use Rattle.board.specs.Attempt.{Leave}
@@ -8,7 +9,6 @@ use Rattle.board.specs.declared.board.Exit.{Exit}
 use Rattle.board.specs.declared.board.Exit.TheVariants as exit
 use Rattle.board.specs.Interrupts.{is_raised}
 use Rattle.board.specs.Machine.{Machine, carried_out, exit_after, machine_effect, port_given, ticked}
-use Rattle.vgic_iface.specs.Rank.{id_end}
 use Rattle.vgic_table.specs.Interrupts.{Interrupts}
 use Rattle.vgic_table.specs.Changes.{made_inactive, made_pending}
 use Rattle.vm_model.specs.Duty.{done, duty_of}

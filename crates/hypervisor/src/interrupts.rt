@@ -1,5 +1,6 @@
 //! Interrupts of the VMs, between their tables and the list registers of their cores.
 ghost use Rattle.std.specs.Prelude.{◌≡◌, ◌<◌, true, length, slice_set, Some, slice_get, unwrap_or};
+ghost use Rattle.bao_types.specs.Controller.{id_end};
 ghost use Rattle.bao_types.specs.ListReg.{free_registers};
 ghost use Rattle.bao_config.specs.Config.{config_data};
 ghost use Rattle.bao_wellformed.specs.WellFormed.{IsWellFormed};
@@ -43,7 +44,7 @@ impl Hyp {
         requires core { seat.core < length (B.state board.old).shape.cores }
         requires vm { seat.vm < length self.old.tables }
         requires own { seat.own < (tables_of self.old.tables seat.vm).cores }
-        requires id { id < 96 }
+        requires id { id < id_end }
         ensures tables { self.new.tables ≡ slice_set self.old.tables seat.vm
             (made_pending (joined (tables_of self.old.tables seat.vm) seat.own (lists_at (B.state board.old).lists seat.core)) seat.own id) }
         ensures powers { self.new.powers ≡ self.old.powers }
@@ -59,7 +60,7 @@ impl Hyp {
         requires core { seat.core < length (B.state board.old).shape.cores }
         requires vm { seat.vm < length self.old.tables }
         requires own { seat.own < (tables_of self.old.tables seat.vm).cores }
-        requires id { id < 96 }
+        requires id { id < id_end }
         ensures tables { self.new.tables ≡ slice_set self.old.tables seat.vm
             (made_inactive (joined (tables_of self.old.tables seat.vm) seat.own (lists_at (B.state board.old).lists seat.core)) seat.own id) }
         ensures powers { self.new.powers ≡ self.old.powers }
@@ -119,7 +120,7 @@ impl Hyp {
         requires well_formed { IsWellFormed (config_data config.now) }
         requires tidy { Tidy (config_data config.now) self.old (B.state board.old) }
         requires seat { IsSeat (config_data config.now) seat }
-        requires id { id < 96 }
+        requires id { id < id_end }
         ensures { let guests = guests_of (config_data config.now) self.old (B.state board.old) in
             IsLeft (config_data config.now) (record { old = self.old; new = self.new; before = B.state board.old; after = B.state board.new })
             (ended_guests seat.vm seat.own id guests) }
@@ -142,7 +143,7 @@ fn collect(tables: &mut ArrayVec<IrqTable, 8>, seat: Seat, lists: &[ListReg; 4])
 fn pend(tables: &mut ArrayVec<IrqTable, 8>, seat: Seat, id: u16)
     requires vm { seat.vm < length tables.old.items }
     requires own { seat.own < (tables_of tables.old.items seat.vm).cores }
-    requires id { id < 96 }
+    requires id { id < id_end }
     ensures { tables.new.items ≡ slice_set tables.old.items seat.vm (made_pending (tables_of tables.old.items seat.vm) seat.own id) }
 {
     tables.as_mut_slice()[usize::from(seat.vm)].pend(seat.own, id);
@@ -152,7 +153,7 @@ fn pend(tables: &mut ArrayVec<IrqTable, 8>, seat: Seat, id: u16)
 fn drop_active(tables: &mut ArrayVec<IrqTable, 8>, seat: Seat, id: u16)
     requires vm { seat.vm < length tables.old.items }
     requires own { seat.own < (tables_of tables.old.items seat.vm).cores }
-    requires id { id < 96 }
+    requires id { id < id_end }
     ensures { tables.new.items ≡ slice_set tables.old.items seat.vm (made_inactive (tables_of tables.old.items seat.vm) seat.own id) }
 {
     tables.as_mut_slice()[usize::from(seat.vm)].drop_active(seat.own, id);

@@ -1,4 +1,5 @@
 ghost use Rattle.std.specs.Prelude.{◌≡◌, ◌<◌, ◌≤◌, ◌+◌, ◌*◌, ◌^◌};
+ghost use Rattle.bao_types.specs.Controller.{id_end};
 ghost use Rattle.vgic_emul.specs.Effects.{changed_by_bits, flag_bits, priority_bytes, with_priorities};
 ghost use Rattle.vgic_emul.specs.Reached.{has, with_flag};
 
@@ -46,7 +47,7 @@ pub(crate) fn write_flags(
 pub(crate) fn priority_bytes(table: &IrqTable, core: u8, first: u16, count: u16) -> u64
     requires core { core < 8 }
     requires count { count ≤ 4 }
-    requires first { first + count ≤ 96 }
+    requires first { first + count ≤ id_end }
     ensures value { result ≡ priority_bytes table.now core first count }
     ensures bound { result < 2 ^ (8 * count) }
 {
@@ -61,7 +62,7 @@ pub(crate) fn priority_bytes(table: &IrqTable, core: u8, first: u16, count: u16)
 pub(crate) fn write_priorities(table: &mut IrqTable, core: u8, value: u64, first: u16, count: u16)
     requires core { core < 8 }
     requires count { count ≤ 4 }
-    requires first { first + count ≤ 96 }
+    requires first { first + count ≤ id_end }
     ensures { table.new ≡ with_priorities table.old core value first count }
 {
     for byte in 0..count {

@@ -4,7 +4,8 @@ use Rattle.std.specs.Prelude.{◌==◌, ℕ, nat_lt, min, Bool, true, false, not
 use Rattle.std.specs.Option.{option_map_or}
 use Rattle.bao_types.specs.ListReg.{ListRegData, is_free}
 use Rattle.bao_types.specs.IfaceRegs.{IfaceData}
-use Rattle.vgic_iface.specs.Rank.{rank, no_rank, least, id_end, id_of, priority_of}
+use Rattle.bao_types.specs.Controller.{id_end}
+use Rattle.vgic_iface.specs.Rank.{rank, no_rank, least, id_of, priority_of}
 use Rattle.vgic_iface.specs.Active.{running, with_priority, without_running}
 
 -- what ICC_IAR1_EL1 reads where no interrupt is signalled

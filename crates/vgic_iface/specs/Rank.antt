@@ -2,10 +2,6 @@
 -- "Interrupt prioritization"). Both are one number here, the rank, so that the best interrupt is a least number.
 use Rattle.std.specs.Prelude.{ℕ, zero, suc, ◌+◌, ◌*◌, ◌/◌, ◌%◌, min}
 
--- the ids of a virtual core's interrupts lie below this
-abbrev pub id_end : ℕ
-id_end = 96
-
 -- the rank of an interrupt that may be taken
 abbrev pub rank : ℕ → ℕ → ℕ
 rank priority id = 128 * priority + id

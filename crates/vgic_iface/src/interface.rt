@@ -3,13 +3,10 @@ ghost use Rattle.vgic_iface.specs.Active.{running, with_priority, without_runnin
 ghost use Rattle.vgic_iface.specs.Interface.{acknowledged, best_listed, ended, is_signalled, is_unlisted, listed_signal, lists_acknowledged, lists_ended};
 
 use crate::lists::{best_listed, make_active, make_inactive};
-use bao_types::{IfaceRegs, ListReg};
+use bao_types::{ID_END, IfaceRegs, ListReg};
 
 /// What ICC_IAR1_EL1 reads where no interrupt is signalled.
 pub const NO_INTERRUPT: u16 = 1023;
-
-/// The ids of a virtual core's interrupts lie below this.
-const ID_END: u16 = 96;
 
 /// The interrupt that the core may take, by its list registers. None exactly where no listed id may be taken.
 pub fn signal(iface: &IfaceRegs, lists: &[ListReg; 4]) -> Option<u16>

@@ -5,7 +5,8 @@ use Rattle.std.proofs.lemmas.Bool.{false≢true}
 use Rattle.std.proofs.lemmas.Bool.Decides.{nat_tests}
 use Rattle.std.proofs.Math.Nat.{le_antisymm}
 use Rattle.bao_types.specs.ListReg.{ListRegData, free_register, is_free}
-use Rattle.vgic_iface.specs.Rank.{id_end, id_of, no_rank, priority_of}
+use Rattle.bao_types.specs.Controller.{id_end}
+use Rattle.vgic_iface.specs.Rank.{id_of, no_rank, priority_of}
 use Rattle.vgic_iface.specs.Interface.{best_listed, holds, listed_rank, rank_in}
 use Rattle.vgic_iface.proofs.LeastLemmas.{least_le, least_le_none}
 use Rattle.vgic_table.specs.declared.id_state.IdState.{IdState}

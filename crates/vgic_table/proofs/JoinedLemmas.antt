@@ -2,7 +2,8 @@
 use Rattle.std.proofs.Common.{◌≡◌, ℕ, ◌<◌, ◌≤◌, min, ◌==◌, Bool, true, false, cond, not, ◌&&◌, if◌then◌else◌, List, [], ◌∷◌, Option, Some, None, find, refl, sym, ap, subst, ◌∙◌, arith, ◌⊎◌, inl, inr}
 use Rattle.std.specs.Option.{option_map_or}
 use Rattle.bao_types.specs.ListReg.{ListRegData, is_free}
-use Rattle.vgic_iface.specs.Rank.{id_end, no_rank, rank}
+use Rattle.bao_types.specs.Controller.{id_end}
+use Rattle.vgic_iface.specs.Rank.{no_rank, rank}
 use Rattle.vgic_iface.specs.Interface.{best_listed, holds, listed_rank, rank_in}
 use Rattle.vgic_table.specs.declared.id_state.IdState.{IdState}
 use Rattle.vgic_table.specs.Interrupts.{Interrupts, belongs, best, rank_at, state_of}

@@ -7,8 +7,9 @@ use Rattle.std.proofs.lemmas.Bool.Decides.{nat_tests}
 use Rattle.std.proofs.lemmas.Nat.{trailing_le}
 use Rattle.bao_types.specs.ListReg.{ListRegData}
 use Rattle.bao_types.specs.IfaceRegs.{IfaceData}
+use Rattle.bao_types.specs.Controller.{id_end}
 use Rattle.vgic_iface.specs.Active.{running}
-use Rattle.vgic_iface.specs.Rank.{id_end, id_of, no_rank, rank}
+use Rattle.vgic_iface.specs.Rank.{id_of, no_rank, rank}
 use Rattle.vgic_iface.specs.Interface.{acknowledged, best_listed, holds, is_signalled, listed_rank, made_active, rank_in, signalled, with_holder}
 use Rattle.vgic_iface.specs.Interface.{made_inactive as list_inactive}
 use Rattle.vgic_iface.proofs.LeastLemmas.{least-found}

@@ -4,7 +4,8 @@ use Rattle.std.proofs.Common.{◌≡◌, ◌≢◌, ℕ, zero, suc, ◌+◌, ◌
 use Rattle.std.proofs.lemmas.Bool.Decides.{nat_tests}
 use Rattle.std.proofs.lemmas.List.{get_or-set_other, set_comm}
 use Rattle.bao_types.specs.ListReg.{ListRegData, is_free}
-use Rattle.vgic_iface.specs.Rank.{id_end, id_of, least, no_rank}
+use Rattle.bao_types.specs.Controller.{id_end}
+use Rattle.vgic_iface.specs.Rank.{id_of, least, no_rank}
 use Rattle.vgic_table.specs.declared.id_state.IdState.{IdState}
 use Rattle.vgic_table.specs.Interrupts.{Interrupts, belongs, best, place, quiet, rank_at, state_of}
 use Rattle.vgic_table.specs.Registers.{Tidy, joined, left_by_registers, put_back, register_for, registers, without_best}

@@ -1,9 +1,10 @@
 -- The best rank of a core, and the id that has it.
 use Rattle.std.proofs.Common.{◌≡◌, ℕ, zero, suc, ◌+◌, ◌*◌, ◌/◌, ◌%◌, ◌<◌, ◌≤◌, nat_lt, min, Bool, true, false, not, ◌&&◌, if◌then◌else◌, refl, sym, ap, subst, ◌∙◌, arith, ◌⊎◌, inl, inr}
-use Rattle.vgic_iface.specs.Rank.{id_end, id_of, least, no_rank, priority_of, rank}
+use Rattle.vgic_iface.specs.Rank.{id_of, least, no_rank, priority_of, rank}
 use Rattle.vgic_iface.proofs.LeastLemmas.{least-found, least_le_none}
 use Rattle.std.proofs.lemmas.Bool.Decides.{nat_tests}
 use Rattle.bao_types.specs.ListReg.{ListRegData, free_register}
+use Rattle.bao_types.specs.Controller.{id_end}
 use Rattle.vgic_table.specs.Registers.{register_for}
 use Rattle.vgic_table.specs.Interrupts.{Interrupts, best, may_take, rank_at, state_of}
 use Rattle.vgic_table.proofs.StateLemmas.{false_true}

@@ -2,8 +2,9 @@
 use Rattle.std.specs.Prelude.{ℕ, ◌-◌, ◌%◌, nat_lt, Bool, true, false, if◌then◌else◌, Option, map, slice_set}
 use Rattle.std.specs.List.{enumerate_from}
 use Rattle.bao_types.specs.IfaceRegs.{IfaceData}
+use Rattle.bao_types.specs.Controller.{id_end}
 use Rattle.vgic_iface.specs.Interface.{is_signalled, signalled}
-use Rattle.vgic_iface.specs.Rank.{id_of, id_end}
+use Rattle.vgic_iface.specs.Rank.{id_of}
 use Rattle.vgic_table.specs.declared.id_state.IdState.{IdState}
 use Rattle.vgic_table.specs.Interrupts.{Interrupts, best, place, state_of}
 

@@ -1,7 +1,8 @@
 -- The interrupts of a VM as a whole, with no list register in them: whether its distributor is on, and what each id of
 -- each virtual core is (GICv3, "Interrupt states"). An id from 32 on is the VM's, and is the same for all its cores.
 use Rattle.std.specs.Prelude.{◌==◌, ℕ, ◌+◌, ◌*◌, nat_lt, Bool, false, not, ◌&&◌, ◌||◌, if◌then◌else◌, List, replicate, slice_index_or}
-use Rattle.vgic_iface.specs.Rank.{rank, no_rank, least, id_end}
+use Rattle.bao_types.specs.Controller.{id_end}
+use Rattle.vgic_iface.specs.Rank.{rank, no_rank, least}
 use Rattle.vgic_table.specs.declared.id_state.IdState.{IdState}
 
 -- `ids` has the ids 0 to 31 of 8 virtual cores, one core after another, and behind them the ids 32 to 95 of the VM

@@ -1,8 +1,9 @@
 -- A VM's interrupts, of which some stand in a core's list registers.
 use Rattle.std.specs.Prelude.{◌≡◌, ◌<◌, ℕ, zero, suc, nat_lt, Bool, true, false, ◌&&◌, if◌then◌else◌, List, [], ◌∷◌, Option, Some, None, find}
 use Rattle.bao_types.specs.ListReg.{ListRegData, free_register, is_free}
+use Rattle.bao_types.specs.Controller.{id_end}
 use Rattle.vgic_iface.specs.Interface.{best_listed, holds}
-use Rattle.vgic_iface.specs.Rank.{no_rank, id_end, id_of, priority_of}
+use Rattle.vgic_iface.specs.Rank.{no_rank, id_of, priority_of}
 use Rattle.vgic_table.specs.Interrupts.{Interrupts, best, belongs, state_of}
 use Rattle.vgic_table.specs.Changes.{with_state}
 

@@ -1,4 +1,5 @@
 ghost use Rattle.std.specs.Prelude.{◌≡◌, ◌<◌, ◌≤◌, ◌==◌, ◌||◌, ℕ, Bool, true, false, List, find, min, None, replicate};
+ghost use Rattle.bao_types.specs.Controller.{id_end};
 ghost use Rattle.bao_types.specs.IfaceRegs.{IfaceData};
 ghost use Rattle.bao_types.specs.ListReg.{free_registers, ListRegData};
 ghost use Rattle.vgic_iface.specs.Interface.{best_listed, holds, is_unlisted};
@@ -42,10 +43,10 @@ pub fn laws_of_cores()
         (is_unlisted (lists_of all core) id ≡ true → belongs vm core id ≡ true) → CoreEnds vm all core id }
     ensures collect { (vm : Interrupts) (all : List (List ListRegData)) (core : ℕ) → IsCoreOf vm all core → CoreCollects vm all core }
     ensures refill { (vm : Interrupts) (all : List (List ListRegData)) (core : ℕ) → IsCoreOf vm all core → CoreRefills vm all core }
-    ensures pend { (vm : Interrupts) (all : List (List ListRegData)) (core id : ℕ) → IsCoreOf vm all core → id < 96 →
+    ensures pend { (vm : Interrupts) (all : List (List ListRegData)) (core id : ℕ) → IsCoreOf vm all core → id < id_end →
         belongs vm core id ≡ true → find (holds id) (lists_of all core) ≡ None →
         StandFor (made_pending (joined_cores 0 all vm) core id) all (made_pending vm core id) }
-    ensures drop { (vm : Interrupts) (all : List (List ListRegData)) (core id : ℕ) → IsCoreOf vm all core → id < 96 →
+    ensures drop { (vm : Interrupts) (all : List (List ListRegData)) (core id : ℕ) → IsCoreOf vm all core → id < id_end →
         belongs vm core id ≡ true → find (holds id) (lists_of all core) ≡ None →
         StandFor (made_inactive (joined_cores 0 all vm) core id) all (made_inactive vm core id) }
     ensures free { (vm : Interrupts) (count : ℕ) → StandFor vm (replicate count free_registers) vm }
@@ -56,7 +57,7 @@ pub fn laws_of_cores()
 /// The laws of ids that are made pending together: one is the set of its place, two sets one after the other are their
 /// union, and sets that are alike make the same pending. An empty set changes nothing.
 pub fn laws_of_pending()
-    ensures one { (vm : Interrupts) (core id : ℕ) → core < 8 → id < 96 → IsShaped vm →
+    ensures one { (vm : Interrupts) (core id : ℕ) → core < 8 → id < id_end → IsShaped vm →
         made_pending vm core id ≡ pended_at (λ p. p == place core id) vm }
     ensures both { (vm : Interrupts) (first second : ℕ → Bool) →
         pended_at first (pended_at second vm) ≡ pended_at (λ p. first p || second p) vm }

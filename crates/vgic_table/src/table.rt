@@ -1,13 +1,11 @@
 ghost use Rattle.std.specs.Prelude.{◌≡◌, ◌<◌};
+ghost use Rattle.bao_types.specs.Controller.{id_end};
 ghost use Rattle.vgic_table.specs.Interrupts.{place};
 
 use crate::IdState;
-use bao_types::ListReg;
+use bao_types::{ID_END, ListReg};
 use std::marker::Model;
 use vgic_iface::best_listed;
-
-/// The ids of a core and its VM lie below this.
-const ID_END: u16 = 96;
 
 /// The ids of a core alone lie below this.
 const OWN_END: u16 = 32;
@@ -71,7 +69,7 @@ impl Model for IrqTable {
 /// Where the table keeps an id of a core.
 fn place(core: u8, id: u16) -> usize
     requires core { core < 8 }
-    requires id { id < 96 }
+    requires id { id < id_end }
     ensures value { result ≡ place core id }
     ensures bound { result < 320 }
 {
@@ -144,7 +142,7 @@ impl IrqTable {
     /// were put.
     pub fn look(&self, core: u8, id: u16) -> IdState
         requires core { core < 8 }
-        requires id { id < 96 }
+        requires id { id < id_end }
         ensures { result ≡ state_of self.now core id }
     {
         let ids = &self.ids;
@@ -160,7 +158,7 @@ impl IrqTable {
     /// Sets what an id of a core is. Of the priority the bits 7 to 3 are kept; all other ids stay.
     pub fn put(&mut self, core: u8, id: u16, value: IdState)
         requires core { core < 8 }
-        requires id { id < 96 }
+        requires id { id < id_end }
         ensures { self.new ≡ with_state self.old core id (masked value) }
     {
         let ids = &mut self.ids;
@@ -176,7 +174,7 @@ impl IrqTable {
     /// Makes an id pending.
     pub fn pend(&mut self, core: u8, id: u16)
         requires core { core < self.old.cores }
-        requires id { id < 96 }
+        requires id { id < id_end }
         ensures { self.new ≡ made_pending self.old core id }
     {
         let ids = &mut self.ids;
@@ -188,7 +186,7 @@ impl IrqTable {
     /// Whether the table itself has an id as pending, list registers aside.
     pub fn is_pending(&self, core: u8, id: u16) -> bool
         requires core { core < self.now.cores }
-        requires id { id < 96 }
+        requires id { id < id_end }
         ensures { result ≡ (state_of self.now core id).pending }
     {
         let ids = &self.ids;
@@ -199,7 +197,7 @@ impl IrqTable {
     /// Makes an id inactive in the table, as the end of an id that stands in no list register does.
     pub fn drop_active(&mut self, core: u8, id: u16)
         requires core { core < self.old.cores }
-        requires id { id < 96 }
+        requires id { id < id_end }
         ensures { self.new ≡ made_inactive self.old core id }
     {
         let ids = &mut self.ids;
@@ -311,7 +309,7 @@ impl IrqTable {
     /// The priority of an id of a core.
     fn priority(&self, core: u8, id: u16) -> u8
         requires core { core < self.now.cores }
-        requires id { id < 96 }
+        requires id { id < id_end }
         ensures value { result ≡ (state_of self.now core id).priority }
         ensures masked { result % 8 ≡ 0 }
     {
@@ -340,7 +338,7 @@ impl IrqTable {
     /// The rank of an id of a core.
     fn rank_at(&self, core: u8, id: u16) -> u16
         requires core { core < self.now.cores }
-        requires id { id < 96 }
+        requires id { id < id_end }
         ensures value { result ≡ rank_at self.now core id }
         ensures bound { result ≤ 32768 }
     {

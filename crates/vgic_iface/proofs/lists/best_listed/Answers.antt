@@ -1,6 +1,6 @@
 use Rattle.std.proofs.Common.{arith, ◌≡◌, ◌∙◌, ap, sym, min}
 use Rattle.std.proofs.Math.Nat.{le_antisymm}
-use Rattle.vgic_iface.specs.Rank.{id_end}
+use Rattle.bao_types.specs.Controller.{id_end}
 use Rattle.vgic_iface.specs.Interface.{listed_rank, rank_by}
 use Rattle.vgic_iface.proofs.LeastLemmas.{least_le_none, le_least}
 use Rattle.vgic_iface.proofs.ListsLemmas.{below-more, le_listed_rank}

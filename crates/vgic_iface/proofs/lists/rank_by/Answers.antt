@@ -1,4 +1,4 @@
-use Rattle.vgic_iface.specs.Rank.{id_end}
+use Rattle.bao_types.specs.Controller.{id_end}
 use Rattle.vgic_iface.specs.Interface.{listed_rank}
 use Rattle.vgic_iface.proofs.LeastLemmas.{least_le, least_le_none}
 use Rattle.vgic_iface.proofs.lists.rank_by.Goals as goal

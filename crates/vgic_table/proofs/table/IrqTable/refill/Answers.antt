@@ -1,8 +1,9 @@
 use Rattle.std.proofs.Common.{◌≤◌, false, List, refl, ◌≡◌, ℕ, ◌<◌, nat_lt, true, Some, sym, ap, subst, ◌∙◌, arith}
 use Rattle.std.proofs.lemmas.Bool.Decides.{nat_tests}
 use Rattle.bao_types.specs.ListReg.{ListRegData}
+use Rattle.bao_types.specs.Controller.{id_end}
 use Rattle.vgic_iface.specs.Interface.{best_listed, listed_rank}
-use Rattle.vgic_iface.specs.Rank.{id_end, no_rank}
+use Rattle.vgic_iface.specs.Rank.{no_rank}
 use Rattle.vgic_iface.proofs.LeastLemmas.{least_le_none}
 use Rattle.vgic_table.specs.Interrupts.{Interrupts, best}
 use Rattle.vgic_table.specs.Registers.{is_due, joined, left_by_registers, registers}
