@@ -1,6 +1,7 @@
 -- The bounds of the integers of a configuration, which `docs/configuration.md` lists too.
 use Rattle.std.specs.Prelude.{◌≡◌, ℕ, ℤ, pos, negsuc, ◌≤◌, ◌-◌, ◌%◌, ◌==◌, Bool, false, ◌&&◌, nat_le}
 use Rattle.bao_types.specs.ByteRange.{address_space_end}
+use Rattle.bao_types.specs.Controller.{frame_size}
 use Rattle.bao_types.specs.Shape.{port_size}
 use Rattle.bao_config.specs.declared.bounds.Bounds.{Bounds}
 
@@ -18,10 +19,6 @@ is_in_bounds bounds (negsuc n) = false
 -- ranges of memory begin at a multiple of this many bytes, and their size is one
 abbrev pub granule : ℕ
 granule = 64
-
--- the bytes of a frame of the interrupt controller
-abbrev pub frame_size : ℕ
-frame_size = 0x10000
 
 -- the bytes of an instruction
 abbrev pub instruction_size : ℕ

@@ -1,13 +1,10 @@
 //! The bounds of the integers of a configuration.
 ghost use Rattle.std.specs.Prelude.{◌≡◌, ◌<◌, pos};
 
-use bao_types::{ADDRESS_SPACE_END, PORT_SIZE};
+use bao_types::{ADDRESS_SPACE_END, FRAME_SIZE, PORT_SIZE};
 
 /// Ranges of memory begin at a multiple of this many bytes, and their size is one.
 pub const GRANULE: u64 = 64;
-
-/// The bytes of a frame of the interrupt controller.
-pub const FRAME_SIZE: u64 = 0x1_0000;
 
 /// The bytes of an instruction.
 pub const INSTRUCTION_SIZE: u64 = 4;

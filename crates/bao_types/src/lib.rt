@@ -9,7 +9,7 @@
 pub use access::{Access, Class, Verdict};
 pub use add::add_carry;
 pub use bits::field;
-pub use controller::ID_END;
+pub use controller::{FRAME_SIZE, ID_END, REDISTRIBUTOR_SIZE};
 pub use interface::{IfaceRegs, ListReg, TimerRegs};
 pub use label::Label;
 pub use law::laws_of_ranges;

@@ -4,6 +4,7 @@ use Rattle.std.specs.Prelude.{ℕ, ◌+◌, ◌-◌, ◌*◌, ◌==◌, nat_le, 
 use Rattle.std.specs.List.{list_any}
 use Rattle.std.specs.Cmp.Lexicographic.{pointwise}
 use Rattle.bao_types.specs.declared.range.ByteRange.{ByteRange}
+use Rattle.bao_types.specs.Controller.{frame_size, redistributor_size}
 use Rattle.bao_types.specs.Shape.{memory_limit, port_range}
 use Rattle.bao_config.specs.declared.config.Shmem.{Shmem}
 use Rattle.bao_config.specs.declared.config.Dev.{Dev}
@@ -18,10 +19,10 @@ use Rattle.bao_wellformed.specs.Break.{broken, indexed, pairs, in_each_vm, in_ea
 
 -- the emulated frames of the interrupt controller: one distributor, and a redistributor for each core of the platform
 abbrev pub distributor : ConfigData → ByteRange
-distributor cfg = record { base = cfg.platform.gicd; size = 0x10000 }
+distributor cfg = record { base = cfg.platform.gicd; size = frame_size }
 
 abbrev pub redistributors : ConfigData → ByteRange
-redistributors cfg = record { base = cfg.platform.gicr; size = 0x20000 * length cfg.platform.cores }
+redistributors cfg = record { base = cfg.platform.gicr; size = redistributor_size * length cfg.platform.cores }
 
 -- the ranges of a VM, and all of a configuration
 abbrev pub vm_ranges : VmData → List ByteRange

@@ -5,7 +5,7 @@ ghost use Rattle.bao_config.specs.Config.{config_data};
 ghost use Rattle.bao_wellformed.specs.Rules.{distributor, redistributors, lies_in_a_bank};
 
 use bao_config::{Config, PortPlace};
-use bao_types::{ByteRange, PORT_SIZE};
+use bao_types::{ByteRange, FRAME_SIZE, PORT_SIZE, REDISTRIBUTOR_SIZE};
 
 /// The bytes of a port.
 pub(crate) fn port_range(port: &PortPlace) -> ByteRange
@@ -23,7 +23,7 @@ pub(crate) fn distributor(config: &Config) -> ByteRange
 {
     ByteRange {
         base: config.platform.gicd,
-        size: 0x10000,
+        size: FRAME_SIZE,
     }
 }
 
@@ -33,7 +33,7 @@ pub(crate) fn redistributors(config: &Config) -> ByteRange
 {
     ByteRange {
         base: config.platform.gicr,
-        size: 0x20000 * config.platform.cores.len() as u64,
+        size: REDISTRIBUTOR_SIZE * config.platform.cores.len() as u64,
     }
 }
 

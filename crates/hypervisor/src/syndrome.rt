@@ -2,6 +2,7 @@
 ghost use Rattle.std.specs.Prelude.{◌≡◌, ◌<◌, ◌≤◌, ◌%◌, Some, IfSome};
 ghost use Rattle.std.specs.Option.{option_map};
 ghost use Rattle.bao_types.specs.Bits.{field};
+ghost use Rattle.bao_types.specs.Controller.{frame_size};
 ghost use Rattle.bao_config.specs.Config.{config_data};
 ghost use Rattle.bao_config.specs.Data.{vm_data};
 ghost use Rattle.vgic_emul.specs.Registers.{core_of, offset_of};
@@ -149,7 +150,7 @@ fn width_of(esr: u64) -> u32
 fn frame_of(config: &Config, vm: &Vm, at: u64) -> Option<FramePlace>
     ensures value { result ≡ frame_of (config_data config.now) (Some (vm_data vm.now)) at }
     ensures core { IfSome result (λ place. core_of place < 8) }
-    ensures offset { IfSome result (λ place. offset_of place % 0x10000 ≡ at % 0x10000) }
+    ensures offset { IfSome result (λ place. offset_of place % frame_size ≡ at % frame_size) }
 {
     let cores = vm.cores.as_slice().len() as u8;
     frame(config.platform.gicd, config.platform.gicr, cores, at)

@@ -1,11 +1,8 @@
 ghost use Rattle.std.specs.Prelude.{◌≡◌, ◌<◌, ◌≤◌, ◌^◌, ◌*◌, ◌/◌, ◌%◌, IfSome};
+ghost use Rattle.bao_types.specs.Controller.{redistributor_size};
 ghost use Rattle.vgic_emul.specs.Frame.{frame_at, in_core, IsPlace};
 
-/// The bytes of a frame.
-const FRAME_SIZE: u64 = 0x10000;
-
-/// The bytes of a core's two frames.
-const CORE_SIZE: u64 = 0x20000;
+use bao_types::{FRAME_SIZE, REDISTRIBUTOR_SIZE};
 
 /// A byte of an emulated frame. An offset is from the frame's first byte, in bytes.
 #[derive(Clone, Copy, Debug, PartialEq, Eq)]
@@ -32,7 +29,7 @@ pub fn frame(gicd: u64, gicr: u64, cores: u8, at: u64) -> Option<FramePlace>
             offset: (at - gicd) as u32,
         });
     }
-    if gicr <= at && at < gicr + CORE_SIZE * u64::from(cores) {
+    if gicr <= at && at < gicr + REDISTRIBUTOR_SIZE * u64::from(cores) {
         return Some(in_core(at - gicr));
     }
     None
@@ -40,11 +37,11 @@ pub fn frame(gicd: u64, gicr: u64, cores: u8, at: u64) -> Option<FramePlace>
 
 /// The frame of a core in which a byte lies, counted from the first core's first byte.
 fn in_core(at: u64) -> FramePlace
-    requires { at < 0x20000 * 8 }
-    ensures { result ≡ in_core (at / 0x20000) (at % 0x20000) }
+    requires { at < redistributor_size * 8 }
+    ensures { result ≡ in_core (at / redistributor_size) (at % redistributor_size) }
 {
-    let core = (at / CORE_SIZE) as u8;
-    let offset = at % CORE_SIZE;
+    let core = (at / REDISTRIBUTOR_SIZE) as u8;
+    let offset = at % REDISTRIBUTOR_SIZE;
     if offset < FRAME_SIZE {
         FramePlace::Redist {
             core,

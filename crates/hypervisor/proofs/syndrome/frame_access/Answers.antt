@@ -1,11 +1,12 @@
 use Rattle.std.proofs.Common.{◌≡◌, ℕ, zero, suc, ◌<◌, ◌%◌, ◌^◌, ap, sym, subst, ◌∙◌, arith}
 use Rattle.bao_types.specs.Bits.{field}
+use Rattle.bao_types.specs.Controller.{frame_size}
 use Rattle.vgic_emul.specs.Registers.{core_of, offset_of}
 use Rattle.vm_model.specs.Frames.{FrameAccess, width_of}
 use Rattle.hypervisor.proofs.syndrome.frame_access.Goals as goal
 
 -- what is a multiple of a width is so in a frame, whose base is a multiple of 64 KiB
-multiple : (offset far k : ℕ) → k < 4 → offset % 0x10000 ≡ far % 0x10000 → far % 2 ^ k ≡ 0 → offset % 2 ^ k ≡ 0
+multiple : (offset far k : ℕ) → k < 4 → offset % frame_size ≡ far % frame_size → far % 2 ^ k ≡ 0 → offset % 2 ^ k ≡ 0
 multiple offset far zero low same whole = omega arith
 multiple offset far (suc zero) low same whole = omega arith
 multiple offset far (suc (suc zero)) low same whole = omega arith
