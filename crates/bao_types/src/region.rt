@@ -21,12 +21,13 @@ pub struct Region {
 
 impl Region {
     ghost use Rattle.std.specs.Prelude.{◌<◌};
+    ghost use Rattle.bao_types.specs.ByteRange.{address_space_end};
     ghost use Rattle.bao_types.specs.Region.{access_permission, covers, first_byte, is_enabled, is_execute_never, is_match, last_byte};
 
     /// BASE times 64: the address of the region's first byte, below 2^48.
     pub fn first_byte(&self) -> u64
         ensures value { result ≡ first_byte self.now }
-        ensures bound { result < 0x1000000000000 }
+        ensures bound { result < address_space_end }
     {
         self.base / 64 % (1 << 42) * 64
     }
@@ -34,7 +35,7 @@ impl Region {
     /// LIMIT times 64 + 63: the address of the region's last byte, below 2^48.
     pub fn last_byte(&self) -> u64
         ensures value { result ≡ last_byte self.now }
-        ensures bound { result < 0x1000000000000 }
+        ensures bound { result < address_space_end }
     {
         self.limit / 64 % (1 << 42) * 64 + 63
     }

@@ -1,6 +1,7 @@
 ghost use Rattle.std.specs.Prelude.{◌≡◌, ℕ, ◌+◌, ◌*◌, ◌<◌, ◌≤◌, ◌++◌, true, length, All};
 ghost use Rattle.std.specs.List.Sorted.{IsNonDecreasing, IsPermutation};
 ghost use Rattle.std.specs.List.{list_any};
+ghost use Rattle.bao_types.specs.ByteRange.{address_space_end};
 ghost use Rattle.pmsa_table.specs.Span.{has, IsSpan};
 ghost use Rattle.pmsa_table.specs.Edges.{edges_of, all_edges, IsBeside, IsCompiled};
 
@@ -29,7 +30,7 @@ fn sort_edges(edges: &mut ArrayVec<u64, 64>)
 fn collect_edges(entries: &[Region]) -> ArrayVec<u64, 64>
     requires { length entries.now ≤ 32 }
     ensures items { result.items ≡ all_edges entries.now }
-    ensures low { All (λ edge. edge < 0x1000000000000) result.items }
+    ensures low { All (λ edge. edge < address_space_end) result.items }
 {
     let mut edges = ArrayVec::new();
     for entry in entries {
@@ -42,7 +43,7 @@ fn push_edges(edges: &mut ArrayVec<u64, 64>, entry: &Region)
     requires { length edges.old.items + 2 ≤ 64 }
     ensures items { edges.new.items ≡ edges.old.items ++ edges_of entry.now }
     ensures len { length edges.new.items ≤ length edges.old.items + 2 }
-    ensures low { All (λ edge. edge < 0x1000000000000) edges.old.items → All (λ edge. edge < 0x1000000000000) edges.new.items }
+    ensures low { All (λ edge. edge < address_space_end) edges.old.items → All (λ edge. edge < address_space_end) edges.new.items }
 {
     if entry.is_enabled() {
         edges.push(entry.first_byte().saturating_sub(1));
@@ -53,7 +54,7 @@ fn push_edges(edges: &mut ArrayVec<u64, 64>, entry: &Region)
 /// A span up to each edge, and one for the rest of the address space.
 fn cut_at(entries: &[Region], edges: &[u64]) -> ArrayVec<Span, 65>
     requires few { length edges.now ≤ 64 }
-    requires low { All (λ edge. edge < 0x1000000000000) edges.now }
+    requires low { All (λ edge. edge < address_space_end) edges.now }
     requires sorted { IsNonDecreasing edges.now }
     requires complete { (first last : ℕ) → All (IsBeside first last) edges.now → All (IsBeside first last) (all_edges entries.now) }
     ensures { IsCompiled entries.now result.items }
@@ -76,7 +77,7 @@ fn cut_one(
     edge: u64,
 ) -> u64
     requires room { length spans.old.items < 65 }
-    requires low { edge < 0x1000000000000 }
+    requires low { edge < address_space_end }
     requires beside { All (IsBeside first edge) edges.now }
     requires complete { (first last : ℕ) → All (IsBeside first last) edges.now → All (IsBeside first last) (all_edges entries.now) }
     ensures len { length spans.new.items ≤ length spans.old.items + 1 }
@@ -85,7 +86,7 @@ fn cut_one(
         (at : ℕ) → at < result → list_any (λ span. has span at) spans.new.items ≡ true }
     ensures grows { first ≤ result }
     ensures past { edge < result }
-    ensures bound { first ≤ 0x1000000000000 → result ≤ 0x1000000000000 }
+    ensures bound { first ≤ address_space_end → result ≤ address_space_end }
 {
     if edge < first {
         return first;

@@ -1,4 +1,5 @@
 ghost use Rattle.std.specs.Prelude.{◌≡◌, ◌<◌, ◌≤◌, ◌^◌, ◌*◌, ◌/◌, ◌%◌, IfSome};
+ghost use Rattle.bao_types.specs.ByteRange.{address_space_end};
 ghost use Rattle.bao_types.specs.Controller.{redistributor_size};
 ghost use Rattle.vgic_emul.specs.Frame.{frame_at, in_core, IsPlace};
 
@@ -18,8 +19,8 @@ pub enum FramePlace {
 /// The emulated frame in which an address lies, of a VM with so many virtual cores. None comes exactly where the address
 /// is in no frame of the VM, and a core of a place is one of the VM's.
 pub fn frame(gicd: u64, gicr: u64, cores: u8, at: u64) -> Option<FramePlace>
-    requires gicd { gicd < 2 ^ 48 }
-    requires gicr { gicr < 2 ^ 48 }
+    requires gicd { gicd < address_space_end }
+    requires gicr { gicr < address_space_end }
     requires cores { cores ≤ 8 }
     ensures value { result ≡ frame_at gicd gicr cores at }
     ensures lies { IfSome result (IsPlace cores) }

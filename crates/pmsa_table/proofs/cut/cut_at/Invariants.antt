@@ -1,5 +1,6 @@
 use Rattle.std.proofs.Common.{◌≡◌, ℕ, ◌<◌, ◌≤◌, true, length, slice_index_or, All}
 use Rattle.std.specs.List.{list_any}
+use Rattle.bao_types.specs.ByteRange.{address_space_end}
 use Rattle.pmsa_table.specs.Span.{has, IsSpan}
 use Rattle.pmsa_table.proofs.cut.cut_at.Given as goal
 
@@ -10,5 +11,5 @@ invariant-loop-edge l =
       right : All (IsSpan l.entries) l.spans.items;
       whole : (at : ℕ) → at < l.first → list_any (λ span. has span at) l.spans.items ≡ true;
       past : (k : ℕ) (d : ℕ) → k < l.edge-index → slice_index_or l.edges k d < l.first;
-      bound : l.first ≤ 0x1000000000000;
+      bound : l.first ≤ address_space_end;
     }
