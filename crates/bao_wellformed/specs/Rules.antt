@@ -5,7 +5,7 @@ use Rattle.std.specs.List.{list_any}
 use Rattle.std.specs.Cmp.Lexicographic.{pointwise}
 use Rattle.bao_types.specs.declared.range.ByteRange.{ByteRange}
 use Rattle.bao_types.specs.Controller.{frame_size, redistributor_size}
-use Rattle.bao_types.specs.Shape.{memory_limit, port_range}
+use Rattle.bao_types.specs.Shape.{memory_limit, port_range, port_size}
 use Rattle.bao_config.specs.declared.config.Shmem.{Shmem}
 use Rattle.bao_config.specs.declared.config.Dev.{Dev}
 use Rattle.bao_config.specs.Data.{ConfigData, VmData, IpcData}
@@ -49,12 +49,12 @@ passing_bank total (bank ∷ banks) =
 abbrev pub rule_2 : ConfigData → List Ill
 rule_2 cfg = map (λ bank. record (broken 2) { first = bank }) (passing_bank 0 cfg.platform.banks)
 
--- a bank or a port; none of them may come nearer than 64 bytes to the base of a frame, so a frame has a margin below it
+-- a bank or a port; none of them may come nearer than a port's size to the base of a frame, so a frame has a margin below it
 abbrev pub plain : ByteRange → Piece
 plain range = record { range = range; with_margin = range; is_frame = false }
 
 abbrev pub frame : ByteRange → Piece
-frame range = record { range = range; with_margin = record { base = range.base - 64; size = range.size + 64 }; is_frame = true }
+frame range = record { range = range; with_margin = record { base = range.base - port_size; size = range.size + port_size }; is_frame = true }
 
 abbrev pub pieces : ConfigData → List Piece
 pieces cfg =

@@ -1,6 +1,6 @@
 //! What stands on the platform, and the rule by which it stands apart: 3.
 ghost use Rattle.std.specs.Prelude.{◌≡◌, ◌≤◌, ◌+◌, ◌^◌, ◌<◌, ◌++◌, map, IfOk, OnOk};
-ghost use Rattle.bao_types.specs.Shape.{port_range};
+ghost use Rattle.bao_types.specs.Shape.{port_range, port_size};
 ghost use Rattle.bao_config.specs.Config.{config_data};
 ghost use Rattle.bao_wellformed.specs.declared.piece.Piece.{Piece};
 ghost use Rattle.bao_wellformed.specs.Break.{first};
@@ -17,7 +17,7 @@ use std::alloc::{AllocError, Global};
 #[derive(Clone, Copy, Debug, PartialEq, Eq)]
 pub(crate) struct Piece {
     pub(crate) range: ByteRange,
-    /// The range that has to be free of banks and ports: of a frame also the 64 bytes below it.
+    /// The range that has to be free of banks and ports: of a frame also as many bytes below it as a port has.
     pub(crate) with_margin: ByteRange,
     pub(crate) is_frame: bool,
 }
@@ -34,8 +34,8 @@ fn plain(range: ByteRange) -> Piece
 }
 
 fn frame(range: ByteRange) -> Piece
-    requires base { 64 ≤ range.base }
-    requires size { range.size + 64 < 2 ^ 64 }
+    requires base { port_size ≤ range.base }
+    requires size { range.size + port_size < 2 ^ 64 }
     ensures { result ≡ frame range }
 {
     Piece {

@@ -9,6 +9,7 @@ use Rattle.bao_types.specs.declared.region.Region.{Region}
 use Rattle.bao_types.specs.ByteRange.{end}
 use Rattle.bao_types.specs.Region.{access_permission, attribute_index, is_enabled, matching_regions, shareability}
 use Rattle.bao_types.specs.Bits.{field}
+use Rattle.bao_config.specs.Bounds.{granule}
 use Rattle.region_list.specs.declared.run.Run.{Run}
 
 -- AP, XN and the attribute index for a class
@@ -32,7 +33,7 @@ abbrev pub entry_of : Run → Region
 entry_of run =
     record {
       base = run.range.base + 4 * permission_of run.class + 2 * execute_never_of run.class;
-      limit = end run.range - 64 + 2 * attribute_of run.class + 1;
+      limit = end run.range - granule + 2 * attribute_of run.class + 1;
     }
 
 -- the bits of an entry besides BASE and LIMIT are those for the class

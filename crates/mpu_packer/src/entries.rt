@@ -1,10 +1,12 @@
 ghost use Rattle.std.specs.Prelude.{◌≡◌, ◌≤◌, ◌+◌, ◌^◌, ◌<◌, All, length, map};
 ghost use Rattle.bao_types.specs.ByteRange.{address_space_end, end};
+ghost use Rattle.bao_config.specs.Bounds.{granule};
 ghost use Rattle.mpu_packer.specs.Packing.{entry_of};
 ghost use Rattle.region_list.specs.Layers.{AreInSpace, IsInSpace};
 
 use crate::class::{attribute_of, execute_never_of, permission_of};
 use arrayvec::ArrayVec;
+use bao_config::bounds::GRANULE;
 use bao_types::Region;
 use region_list::Run;
 
@@ -25,7 +27,7 @@ pub struct Plan {
 pub(crate) fn plan_of(core: u8, runs: &[Run]) -> Plan
     requires room { length runs.now ≤ 32 }
     requires in_space { AreInSpace runs.now }
-    requires sizes { All (λ run. 64 ≤ run.range.size) runs.now }
+    requires sizes { All (λ run. granule ≤ run.range.size) runs.now }
     ensures core { result.core ≡ core }
     ensures entries { result.entries.items ≡ map entry_of runs.now }
     ensures starts { result.starts.items ≡ map (λ run. run.range.base) runs.now }
@@ -46,11 +48,11 @@ pub(crate) fn plan_of(core: u8, runs: &[Run]) -> Plan
 /// The entry of a run.
 fn entry_of(run: &Run) -> Region
     requires in_space { IsInSpace run.now.range }
-    requires size { 64 ≤ run.now.range.size }
+    requires size { granule ≤ run.now.range.size }
     ensures { result ≡ entry_of run.now }
 {
     Region {
         base: run.range.base + 4 * permission_of(run.class) + 2 * execute_never_of(run.class),
-        limit: run.range.end() - 64 + 2 * attribute_of(run.class) + 1,
+        limit: run.range.end() - GRANULE + 2 * attribute_of(run.class) + 1,
     }
 }
