@@ -3,7 +3,7 @@ ghost use Rattle.outside.specs.Use.{shelf_use, sink_use};
 ghost use Rattle.bao_command.specs.Played.{IsPlayed};
 
 use bao_run::run_bao;
-use board::Board;
+use board::{Board, CONSOLES};
 use outside::{Shelf, Sink};
 use port_kinds::{ConsolePort, ScratchPort, TickerPort};
 use ports::Port;
@@ -11,9 +11,7 @@ use report::Status;
 use sim_board::SimBoard;
 use std::alloc::{AllocError, Global};
 
-/// The ports of the standard list, in its order.
-const CONSOLES: u8 = 8;
-
+/// The ports of the standard list behind the consoles, in its order.
 const SCRATCH_PORTS: u8 = 4;
 
 const TICKERS: u8 = 4;

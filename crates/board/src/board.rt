@@ -6,6 +6,9 @@ use crate::CoreView;
 use bao_types::{ListReg, OutOfMemory, Region, Shape};
 use std::alloc::Global;
 
+/// The ports below this number are consoles.
+pub const CONSOLES: u8 = 8;
+
 /// Why a core stopped after a step.
 #[derive(Clone, Copy, Debug, PartialEq, Eq)]
 pub enum Exit {

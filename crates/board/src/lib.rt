@@ -5,7 +5,7 @@
 //! those is in `vm_model`, and shares with the machine what one step does.
 #![tactic(auto)]
 
-pub use board::{Board, Exit};
+pub use board::{Board, CONSOLES, Exit};
 pub use judged::{Fault, Judged};
 pub use laws::{
     a_fault_is_of_the_first_refused_byte, a_step_disturbs_nothing_else,
