@@ -1,6 +1,7 @@
 -- The registers that an instruction names, and a core after a reset.
 use Rattle.std.specs.Prelude.{ℕ, Bool, false, ◌==◌, if◌then◌else◌, slice_index, slice_set, replicate}
 use Rattle.bao_types.specs.Bits.{field}
+use Rattle.bao_types.specs.Region.{no_region}
 use Rattle.a64_state.specs.Core.{CoreData}
 use Rattle.a64_state.specs.Pstate.{mode}
 
@@ -65,7 +66,7 @@ reset_core affinity =
             tpidr_el0 = 0;
             tpidrro_el0 = 0;
           };
-      regions = record { select = 0; regions = replicate 16 (record { base = 0; limit = 0 }) };
+      regions = record { select = 0; regions = replicate 16 no_region };
       timer = record { ctl = 0; cval = 0; level = false };
       iface = record { pmr = 0; group = false; active = 0 };
       affinity = affinity;

@@ -1,7 +1,7 @@
 ghost use Rattle.std.specs.Prelude.{◌≡◌, ◌≤◌, ◌<◌};
 
 use crate::{Mode, pstate};
-use bao_types::{IfaceRegs, Region, RegionFile, TimerRegs};
+use bao_types::{IfaceRegs, NO_REGION, RegionFile, TimerRegs};
 use std::marker::Model;
 
 /// The system registers of EL1 and EL0 that only keep what is written to them, or that hold the state of an
@@ -82,7 +82,7 @@ impl Core {
             sys: SysRegs::default(),
             regions: RegionFile {
                 select: 0,
-                regions: [Region { base: 0, limit: 0 }; 16],
+                regions: [NO_REGION; 16],
             },
             timer: TimerRegs {
                 ctl: 0,

@@ -2,7 +2,7 @@
 use Rattle.std.proofs.Common.{◌≡◌, ℕ, zero, suc, List, [], ◌∷◌, get_or, refl, sym, subst}
 use Rattle.std.specs.List.{All, AllByRecursion as ByRecursion}
 use Rattle.std.proofs.lemmas.List.Elements.{All-set, recursion_from_All}
-use Rattle.bao_types.specs.Region.{IsWithinMasks, kept_base, kept_limit}
+use Rattle.bao_types.specs.Region.{IsWithinMasks, kept_base, kept_limit, no_region}
 use Rattle.bao_types.specs.RegionFile.{RegionFileData}
 use Rattle.pmsa_regs.specs.RegionRegs.{selected, with_base, with_limit}
 use Rattle.pmsa_regs.proofs.RegionRegsLemmas.{IsWithinMasks-base, IsWithinMasks-limit}
@@ -16,7 +16,7 @@ get_or-within P (x ∷ xs) (suc i) d default all = get_or-within P xs i d defaul
 
 selected-within : (file : RegionFileData) → All IsWithinMasks file.regions → IsWithinMasks (selected file)
 selected-within file all =
-    get_or-within IsWithinMasks file.regions file.select (record { base = 0; limit = 0 }) (refl, refl)
+    get_or-within IsWithinMasks file.regions file.select no_region (refl, refl)
     (recursion_from_All IsWithinMasks file.regions all)
 
 with_base-within :

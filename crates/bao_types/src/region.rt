@@ -19,6 +19,9 @@ pub struct Region {
     pub limit: u64,
 }
 
+/// A region of zeros, which is off, as all are after a reset.
+pub const NO_REGION: Region = Region { base: 0, limit: 0 };
+
 impl Region {
     ghost use Rattle.std.specs.Prelude.{◌<◌};
     ghost use Rattle.bao_types.specs.ByteRange.{address_space_end};

@@ -3,12 +3,12 @@
 use Rattle.std.specs.Prelude.{ℕ, slice_index_or, slice_set}
 use Rattle.bao_types.specs.declared.region.Region.{Region}
 use Rattle.bao_types.specs.Bits.{field}
-use Rattle.bao_types.specs.Region.{kept_base, kept_limit}
+use Rattle.bao_types.specs.Region.{kept_base, kept_limit, no_region}
 use Rattle.bao_types.specs.RegionFile.{RegionFileData}
 
 -- the selected region
 abbrev pub selected : RegionFileData → Region
-selected file = slice_index_or file.regions file.select (record { base = 0; limit = 0 })
+selected file = slice_index_or file.regions file.select no_region
 
 -- another region in the place of the selected one; all others and the selection stay
 abbrev pub with_selected : RegionFileData → Region → RegionFileData

@@ -1,8 +1,6 @@
 use crate::{read_base, read_limit, select, write_base, write_limit, write_select};
-use bao_types::{Region, RegionFile};
+use bao_types::{NO_REGION, RegionFile};
 use std::process::Abort;
-
-const ZERO: Region = Region { base: 0, limit: 0 };
 
 fn check(rt: &impl Abort, holds: bool, shows: &str) {
     assert!(rt; holds, "{shows}");
@@ -30,7 +28,7 @@ fn masks(rt: HostRuntime) {
     for (shows, written, base, limit) in MASKS.as_slice() {
         let mut regs = RegionFile {
             select: 3,
-            regions: [ZERO; 16],
+            regions: [NO_REGION; 16],
         };
         write_base(&mut regs, *written);
         write_limit(&mut regs, *written);
@@ -42,7 +40,7 @@ fn masks(rt: HostRuntime) {
 fn selection(rt: HostRuntime) {
     let mut regs = RegionFile {
         select: 0,
-        regions: [ZERO; 16],
+        regions: [NO_REGION; 16],
     };
     write_select(&mut regs, 15);
     write_base(&mut regs, 0x100004);

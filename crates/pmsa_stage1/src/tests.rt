@@ -1,5 +1,5 @@
 use crate::judge1;
-use bao_types::{Access, Region, RegionFile, Verdict};
+use bao_types::{Access, NO_REGION, Region, RegionFile, Verdict};
 use pmsa_regs::{write_base, write_limit, write_select};
 use std::process::Abort;
 
@@ -8,13 +8,11 @@ const ON: u64 = 0x1;
 
 const ON_WITH_BACKGROUND: u64 = 0x20001;
 
-const ZERO: Region = Region { base: 0, limit: 0 };
-
 /// These as regions 0 and 1, all others off, as a guest writes them.
 fn regions(first: Region, second: Region) -> RegionFile {
     let mut regs = RegionFile {
         select: 0,
-        regions: [ZERO; 16],
+        regions: [NO_REGION; 16],
     };
     write_base(&mut regs, first.base);
     write_limit(&mut regs, first.limit);
@@ -61,7 +59,7 @@ fn permission_table(rt: HostRuntime) {
             base: 0x100000 + 4 * u64::from(*permission) + 2 * u64::from(*execute_never),
             limit: 0x10ffc1,
         };
-        let regs = regions(region, ZERO);
+        let regs = regions(region, NO_REGION);
         let verdicts = [
             judge1(&regs, ON_WITH_BACKGROUND, *level, Access::Read, 0x104000),
             judge1(&regs, ON_WITH_BACKGROUND, *level, Access::Write, 0x104000),

@@ -14,7 +14,7 @@ use crate::memory::copy_in;
 use crate::step::{look_at_timer, step_core};
 use a64_state::Core;
 use arrayvec::ArrayVec;
-use bao_types::{CorePlace, ListReg, OutOfMemory, PortSpot, Region, Shape};
+use bao_types::{CorePlace, ListReg, NO_REGION, OutOfMemory, PortSpot, Region, Shape};
 use board::{Board, CoreView, Exit};
 use phys_bank::Banks;
 use pmsa_table::Table;
@@ -163,7 +163,7 @@ fn zeros(count: u8) -> ArrayVec<Region, 32>
 {
     let mut entries = ArrayVec::new();
     for i in 0..count {
-        entries.push(Region { base: 0, limit: 0 });
+        entries.push(NO_REGION);
     }
     entries
 }
