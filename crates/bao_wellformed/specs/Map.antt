@@ -3,7 +3,7 @@ use Rattle.std.specs.Prelude.{ℕ, ◌==◌, Bool, true, false, if◌then◌else
 use Rattle.std.specs.List.{find, filter_map, list_any}
 use Rattle.std.specs.Option.{option_map}
 use Rattle.bao_types.specs.declared.range.ByteRange.{ByteRange}
-use Rattle.bao_types.specs.ByteRange.{is_within, is_in_one}
+use Rattle.bao_types.specs.ByteRange.{is_within}
 use Rattle.bao_types.specs.Shape.{port_range}
 use Rattle.bao_types.specs.declared.access.Class.{Class}
 use Rattle.bao_types.specs.declared.access.Class.TheVariants.{Nothing, Hyp, Guest}
@@ -40,10 +40,6 @@ abbrev pub map_of : ConfigData → VmData → List MapEntry
 map_of cfg vm =
     map region_entry vm.regions ++ filter_map (dev_entry cfg) vm.devs ++ filter_map (ipc_entry cfg) vm.ipcs
     ++ map guard_entry vm.guards
-
--- the byte is one of a port's, of the ports of the platform
-abbrev pub is_platform_port : ConfigData → ℕ → Bool
-is_platform_port cfg = is_in_one (λ port. port_range port.base) cfg.platform.ports
 
 -- the kind that an entry gives, where there is one
 abbrev pub kind_of : Option MapEntry → Kind
