@@ -3,7 +3,7 @@ use Rattle.std.proofs.Common.{◌≡◌, ℕ, zero, suc, ◌+◌, ◌*◌, ◌/�
 use Rattle.std.specs.Prelude.{IsTrue, IsFalse, ◌&&◌, ◌||◌, ◌⊎◌, ◌==◌, not, if◌then◌else◌, Option, None, Some}
 use Rattle.std.proofs.lemmas.Bool.Decides.{nat_tests}
 use Rattle.std.proofs.Math.Nat.{mul-suc}
-use Rattle.bao_types.specs.Bytes.{IsWidth, little_endian, next_address}
+use Rattle.bao_types.specs.Bytes.{IsWidth, bytes_from, little_endian, next_address}
 use Rattle.bao_types.specs.declared.access.Access.{Access}
 use Rattle.bao_types.specs.declared.access.Access.TheVariants.{Read, Write, Exec}
 use Rattle.bao_types.specs.declared.access.Verdict.{Verdict}
@@ -26,7 +26,7 @@ use Rattle.ports.specs.Registers.{after_read, after_write, line_of_write, value_
 use Rattle.board.specs.declared.judged.Fault.{Fault}
 use Rattle.board.specs.declared.judged.Judged.{Judged}
 use Rattle.board.specs.declared.judged.Judged.TheVariants.{Memory, Port, Refused}
-use Rattle.board.specs.Ports.{Places, PortStates, PortByte, PortAccess, ReadPort, WritePort, accessed, all_accessed, address_from, bytes_from, element_read, element_stored, element_value, element_written, elements_read, elements_stored, elements_value, elements_written, is_port, number_at, raises_line, stores_from, with_port}
+use Rattle.board.specs.Ports.{Places, PortStates, PortByte, PortAccess, ReadPort, WritePort, accessed, all_accessed, address_from, element_read, element_stored, element_value, element_written, elements_read, elements_stored, elements_value, elements_written, is_port, number_at, raises_line, stores_from, with_port}
 use Rattle.board.specs.Stage.{Stage, is_allowed, both}
 use Rattle.board.specs.Judge.{all_from, fault_or, first_fault, fault_else, is_free, Reach, reach_of}
 use Rattle.board.specs.Attempt.{Effect, ran, raised, fetch_aborted, data_aborted, bare_syndrome, alignment_code, code_of, checks_alignment, is_misaligned, is_sp_misaligned, misaligned, at_port, checked, load_effect, store_effect, effect_of, word_effect, fetch_effect, attempt, takes_irq, step_effect}

@@ -3,7 +3,7 @@
 use Rattle.std.specs.Prelude.{ℕ, zero, suc, ◌+◌, ◌-◌, ◌*◌, ◌/◌, ◌%◌, ◌^◌, ◌==◌, nat_lt, Bool, false, ◌&&◌, ◌||◌, if◌then◌else◌, List, [], ◌∷◌, ◌++◌, is_some, Option, None, Some}
 use Rattle.std.specs.List.{find}
 use Rattle.std.specs.Option.{option_map}
-use Rattle.bao_types.specs.Bytes.{little_endian, next_address}
+use Rattle.bao_types.specs.Bytes.{bytes_from, little_endian, next_address}
 use Rattle.bao_types.specs.ByteRange.{is_within}
 use Rattle.bao_types.specs.Shape.{port_range}
 use Rattle.ports.specs.PortState.{PortState, new_port, output_of}
@@ -90,11 +90,7 @@ raises_line [] states port = false
 raises_line (access ∷ accesses) states port =
     raises access states && port_of access == port || raises_line accesses (accessed access states) port
 
--- so many bytes of memory from an address on, and the number that they are
-abbrev pub bytes_from : (ℕ → ℕ) → ℕ → ℕ → List ℕ
-bytes_from bytes at zero = []
-bytes_from bytes at (suc n) = bytes at ∷ bytes_from bytes (next_address at) n
-
+-- the number that so many bytes of memory from an address on are
 abbrev pub number_at : (ℕ → ℕ) → ℕ → ℕ → ℕ
 number_at bytes at n = little_endian (bytes_from bytes at n)
 

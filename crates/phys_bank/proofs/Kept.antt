@@ -5,11 +5,11 @@ use Rattle.std.proofs.Math.Nat.{mod-add-mod}
 use Rattle.std.proofs.lemmas.Bool.{cases_eq}
 use Rattle.std.proofs.lemmas.List.{get_or-set_same, get_or-set_other, get_or_append_left, get_or-append_right}
 use Rattle.bao_types.specs.ByteRange.{address_space_end}
-use Rattle.bao_types.specs.Bytes.{little_endian, next_address}
+use Rattle.bao_types.specs.Bytes.{bytes_from, little_endian, next_address}
 use Rattle.phys_memory.proofs.Runs.{length-put, slice_index-put_before, slice_index-put_inside, slice_index-put_behind}
 use Rattle.phys_bank.specs.declared.bank_place.BankPlace.{BankPlace}
 use Rattle.phys_bank.specs.declared.place.Spot.{Spot}
-use Rattle.phys_bank.specs.Banks.{BanksData, page_byte, byte_in, byte_at, bytes_from, has_page, is_kept, IsWritten}
+use Rattle.phys_bank.specs.Banks.{BanksData, page_byte, byte_in, byte_at, has_page, is_kept, IsWritten}
 use Rattle.phys_bank.specs.Directory.{page_at}
 use Rattle.phys_bank.specs.Places.{page_size, spot_of, ranges_of, AreApart, AreLaid}
 use Rattle.phys_bank.proofs.Spots.{spot-below, same-page, spot-follows}

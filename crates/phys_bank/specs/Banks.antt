@@ -1,6 +1,5 @@
 -- What a contract sees of `Banks`: the byte at each address, and which bytes are kept.
-use Rattle.std.specs.Prelude.{◌≡◌, ℕ, zero, suc, ◌+◌, ◌<◌, ◌≤◌, ◌⊎◌, Bool, false, List, [], ◌∷◌, length, Option, Some, None, slice_index, IfSome}
-use Rattle.bao_types.specs.Bytes.{next_address}
+use Rattle.std.specs.Prelude.{◌≡◌, ℕ, ◌+◌, ◌<◌, ◌≤◌, ◌⊎◌, Bool, false, List, length, Option, Some, None, slice_index, IfSome}
 use Rattle.phys_bank.specs.declared.bank_place.BankPlace.{BankPlace}
 use Rattle.phys_bank.specs.declared.place.Spot.{Spot}
 use Rattle.phys_bank.specs.Directory.{page_at, is_page}
@@ -33,11 +32,6 @@ has_page pages (Some spot) = is_page pages spot.entry
 -- the byte at an address has a page
 abbrev pub is_kept : BanksData → ℕ → Bool
 is_kept banks at = has_page banks.pages (spot_of banks.places at)
-
--- so many bytes from an address on; addresses wrap at 2^64
-abbrev pub bytes_from : (ℕ → ℕ) → ℕ → ℕ → List ℕ
-bytes_from bytes at zero = []
-bytes_from bytes at (suc n) = bytes at ∷ bytes_from bytes (next_address at) n
 
 -- these bytes lie from an address on, all others stay, and no page comes or goes
 pub record IsWritten (old new : BanksData) (from : ℕ) (bytes : List ℕ) : Type 0 where

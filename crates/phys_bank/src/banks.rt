@@ -2,9 +2,9 @@
 ghost use Rattle.std.specs.Prelude.{◌≡◌, ℕ, ◌+◌, ◌^◌, ◌<◌, ◌≤◌, [], ◌∷◌, All, Some, map, length, sum, IsTrue, IsFalse, IfOk};
 ghost use Rattle.std.specs.List.{AllPairs, list_any};
 ghost use Rattle.bao_types.specs.ByteRange.{address_space_end, end, is_in_one, lies_in, overlaps};
-ghost use Rattle.bao_types.specs.Bytes.{IsWidth, little_endian, low_bytes};
+ghost use Rattle.bao_types.specs.Bytes.{IsWidth, little_endian, low_bytes, bytes_from};
 ghost use Rattle.bao_types.specs.Shape.{memory_limit};
-ghost use Rattle.phys_bank.specs.Banks.{byte_at, bytes_from, is_kept, IsWritten};
+ghost use Rattle.phys_bank.specs.Banks.{byte_at, is_kept, IsWritten};
 ghost use Rattle.phys_bank.specs.Directory.{is_page};
 ghost use Rattle.phys_bank.specs.Pages.{shares_page};
 ghost use Rattle.phys_bank.specs.Places.{spot_of};

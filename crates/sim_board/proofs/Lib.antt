@@ -1,6 +1,5 @@
 pub mod Weaker
 pub mod Placed
-pub mod Same
 pub mod Judged
 pub mod Halves
 pub mod Stored

@@ -1,6 +1,6 @@
 use Rattle.std.proofs.Common.{◌≡◌, ◌+◌, ◌-◌, ◌%◌, ◌^◌, ◌<◌}
-use Rattle.bao_types.specs.Bytes.{little_endian}
-use Rattle.phys_bank.specs.Banks.{byte_at, bytes_from}
+use Rattle.bao_types.specs.Bytes.{bytes_from, little_endian}
+use Rattle.phys_bank.specs.Banks.{byte_at}
 use Rattle.phys_bank.proofs.banks.Banks.read_across.Given as goal
 
 abbrev pub invariant-loop-k : goal.invariant-loop-k

@@ -1,6 +1,6 @@
 use Rattle.std.proofs.Common.{ap, ◌∙◌, arith}
-use Rattle.bao_types.specs.Bytes.{little_endian}
-use Rattle.phys_bank.specs.Banks.{byte_at, bytes_from}
+use Rattle.bao_types.specs.Bytes.{bytes_from, little_endian}
+use Rattle.phys_bank.specs.Banks.{byte_at}
 use Rattle.phys_bank.specs.Places.{spot_of}
 use Rattle.phys_bank.proofs.Spots.{spot-places, spot-inside}
 use Rattle.phys_bank.proofs.Kept.{whole-at, number-in_page, number-of_none}
