@@ -11,7 +11,7 @@ use a64_alu::low_x;
 use a64_decode::{ExceptionKind, Instr, Reg};
 use a64_state::Core;
 use a64_sysreg::{SysWrite, acknowledges, may_read, write_answer};
-use bao_types::SysId;
+use bao_types::{SysId, weight_behind};
 use exceptions::{Class, exception_syndrome, register_write_syndrome, syndrome};
 
 /// What an instruction asks before it can be completed.
@@ -168,7 +168,7 @@ fn stored_value(core: &Core, instr: &Instr, width: u32) -> u128
     ensures { result ≡ stored_value_of core.now instr.now (8 * width) }
 {
     match *instr {
-        Instr::Pair { rt2, rt, .. } => low(core, width, rt) + unit(width) * low(core, width, rt2),
+        Instr::Pair { rt2, rt, .. } => low(core, width, rt) + weight_behind(width) * low(core, width, rt2),
         Instr::LoadStoreUnsigned { rt, .. } | Instr::LoadStoreIndexed { rt, .. } | Instr::LoadStoreRegister { rt, .. } =>
             low(core, width, rt),
         Instr::Address { .. } | Instr::AddSubImmediate { .. } | Instr::LogicalImmediate { .. } | Instr::MoveWide { .. }
@@ -179,19 +179,6 @@ fn stored_value(core: &Core, instr: &Instr, width: u32) -> u128
         | Instr::AddSubShifted { .. } | Instr::AddSubExtended { .. } | Instr::AddSubCarry { .. }
         | Instr::ConditionalCompare { .. } | Instr::ConditionalSelect { .. } | Instr::ThreeSources { .. }
         | Instr::TwoSources { .. } | Instr::OneSource { .. } | Instr::LoadLiteral { .. } | Instr::Undefined => 0,
-    }
-}
-
-/// One more than the largest number of so many bytes.
-pub(crate) fn unit(width: u32) -> u128
-    requires { IsWidth width }
-    ensures { result ≡ 2 ^ (8 * width) }
-{
-    match width {
-        1 => 1 << 8,
-        2 => 1 << 16,
-        4 => 1 << 32,
-        _ => 1 << 64,
     }
 }
 

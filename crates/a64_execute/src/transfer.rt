@@ -5,10 +5,10 @@ ghost use Rattle.bao_types.specs.Bytes.{IsWidth};
 ghost use Rattle.a64_decode.specs.Lawful.{IsLawful, IsReg};
 ghost use Rattle.a64_execute.specs.Transfer.{first_element, second_element, with_element, with_pair, with_back, transferred};
 
-use crate::need::unit;
 use a64_address::MemShape;
 use a64_decode::{Instr, LiteralKind, PairKind, Reg, Transfer, loaded};
 use a64_state::Core;
+use bao_types::weight_behind;
 
 /// Writes what was loaded to its registers, and the base back, where the instruction does so.
 #[rattlefmt::skip]
@@ -58,7 +58,7 @@ fn first(got: u128, width: u32) -> u64
     ensures value { result ≡ first_element (8 * width) got }
     ensures bound { result < 2 ^ (8 * width) }
 {
-    (got % unit(width)) as u64
+    (got % weight_behind(width)) as u64
 }
 
 /// The element behind it.
@@ -68,7 +68,7 @@ fn second(got: u128, width: u32) -> u64
     ensures value { result ≡ second_element (8 * width) got }
     ensures bound { result < 2 ^ (8 * width) }
 {
-    (got / unit(width) % unit(width)) as u64
+    (got / weight_behind(width) % weight_behind(width)) as u64
 }
 
 /// Writes a loaded element to a register.

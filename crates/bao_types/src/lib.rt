@@ -21,6 +21,7 @@ pub use region_match::RegionMatch;
 pub use shape::{CorePlace, EVENT_LIMIT, MEMORY_LIMIT, PORT_SIZE, PortSpot, Shape, is_port};
 pub use sum::Sum;
 pub use sys_id::SysId;
+pub use weight::weight_behind;
 
 mod access;
 mod add;
@@ -39,3 +40,4 @@ mod sum;
 mod sys_id;
 #[cfg(test)]
 mod tests;
+mod weight;

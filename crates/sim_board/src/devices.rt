@@ -1,5 +1,5 @@
 //! The ports of a board, where they stand, and what a step does to them.
-ghost use Rattle.std.specs.Prelude.{◌≡◌, ℕ, ◌+◌, ◌*◌, ◌≤◌, ◌<◌, ◌%◌, ◌^◌, false, List, [], All, IsTrue, OnOk, length, slice_index, map};
+ghost use Rattle.std.specs.Prelude.{◌≡◌, ℕ, ◌+◌, ◌*◌, ◌≤◌, ◌<◌, ◌%◌, false, List, [], All, IsTrue, OnOk, length, slice_index, map};
 ghost use Rattle.std.specs.Option.{option_map};
 ghost use Rattle.bao_types.specs.Bytes.{IsWidth};
 ghost use Rattle.bao_types.specs.Shape.{event_limit, port_size};
@@ -17,7 +17,7 @@ ghost use Rattle.sim_board.specs.Gap.{IsGap};
 use crate::gap::Gap;
 use crate::spots::{PortByte, port_at};
 use arrayvec::ArrayVec;
-use bao_types::{OutOfMemory, PortSpot};
+use bao_types::{OutOfMemory, PortSpot, weight_behind};
 use gic_core::Lines;
 use ports::Port;
 use std::alloc::Global;
@@ -151,7 +151,7 @@ impl Devices for BoxedPorts {
     fn write(&mut self, at: u64, width: u32, value: u128) -> bool {
         match port_at(&self.spots, at) {
             Some(byte) => {
-                let part = (value % power(width)) as u64;
+                let part = (value % weight_behind(width)) as u64;
                 let raised = write_one(
                     &mut self.ports[usize::from(byte.port)],
                     byte.offset,
@@ -205,21 +205,6 @@ impl BoxedPorts {
             gap: Gap::NONE,
             lines: Lines::new(&ArrayVec::new()),
         }
-    }
-}
-
-/// 256 to the power of a width, above which the next element lies.
-pub(crate) fn power(width: u32) -> u128
-    requires { IsWidth width }
-    ensures value { result ≡ 256 ^ width }
-    ensures bound { result ≤ 2 ^ 64 }
-    ensures some { 1 ≤ result }
-{
-    match width {
-        1 => 1 << 8,
-        2 => 1 << 16,
-        4 => 1 << 32,
-        _ => 1 << 64,
     }
 }
 
