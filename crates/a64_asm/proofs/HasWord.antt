@@ -26,10 +26,11 @@ use Rattle.a64_decode.specs.declared.operand.Transfer.{Transfer}
 use Rattle.a64_decode.specs.declared.operand.Transfer.TheVariants as transfer
 use Rattle.a64_decode.specs.Pattern.{Row}
 use Rattle.a64_decode.specs.Operands.{flag, sign_extend, condition_of, shift_of, logical_of, move_of, exception_of, size_of, transfer_of}
-use Rattle.a64_decode.specs.Codes.{bit, condition_number, shift_number, logical_number, move_number, branch_number, size_number, transfer_number, exception_brk, exception_ll, unsigned_of}
+use Rattle.a64_decode.specs.Codes.{bit, condition_number, shift_number, logical_number, move_number, branch_number, transfer_number, exception_brk, exception_ll, unsigned_of}
 use Rattle.a64_decode.specs.Lawful.{IsLawful, IsSigned, is_rotation, has_no_transfer}
 use Rattle.a64_decode.specs.Word.{join, fields_of, row_of, word_of}
 use Rattle.a64_decode.specs.Table.{table, branch_rows, system_rows, register_rows, source_rows, load_store_rows, is_no_transfer, address_row, add_sub_immediate_row, logical_immediate_row, move_wide_row, bitfield_row, extract_row, branch_row, branch_conditional_row, compare_branch_row, test_branch_row, branch_register_row, exception_return_row, exception_row, hint_row, barrier_row, msr_immediate_row, system_row, system_register_row, logical_shifted_row, add_sub_shifted_row, add_sub_extended_row, add_sub_carry_row, conditional_compare_row, conditional_select_row, three_sources_row, two_sources_row, one_source_row, load_literal_row, pair_row, load_store_unsigned_row}
+use Rattle.a64_decode.specs.Access.{scale_of}
 use Rattle.a64_encode.specs.Encode.{IsWordOf, encoded}
 use Rattle.a64_asm.specs.Source.{is_said}
 use Rattle.a64_asm.proofs.Encodable.{fills, is_apart, IsReadAs, read_as}
@@ -371,19 +372,17 @@ word-added wide subtract flags shift rm amount rn rd lawful =
     (added_defined wide shift amount lawful.0 lawful.2)
     (rw (flag-bit wide, flag-bit subtract, flag-bit flags, shift_of-number shift) refl)
 
-size_of-number : (size : Size) → size_of (size_number size) ≡ size
-unfolding size_number
-size_of-number size.Byte = refl
-size_of-number size.Half = refl
-size_of-number size.Word = refl
-size_of-number size.Double = refl
+size_of-scale : (size : Size) → size_of (scale_of size) ≡ size
+size_of-scale size.Byte = refl
+size_of-scale size.Half = refl
+size_of-scale size.Word = refl
+size_of-scale size.Double = refl
 
-size_low : (size : Size) → size_number size < 2 ^ 2
-unfolding size_number
-size_low size.Byte = lit< tt
-size_low size.Half = lit< tt
-size_low size.Word = lit< tt
-size_low size.Double = lit< tt
+scale_low : (size : Size) → scale_of size < 2 ^ 2
+scale_low size.Byte = lit< tt
+scale_low size.Half = lit< tt
+scale_low size.Word = lit< tt
+scale_low size.Double = lit< tt
 
 transfer_of-number : (transfer : Transfer) → transfer_of (transfer_number transfer) ≡ transfer
 unfolding transfer_number
@@ -400,8 +399,8 @@ transfer_low transfer.LoadSigned = lit< tt
 transfer_low transfer.LoadSignedWord = lit< tt
 
 transfer_defined : (size : Size) (transfer : Transfer) → IsFalse (has_no_transfer size transfer)
-    → is_no_transfer (size_number size) (transfer_number transfer) ≡ false
-unfolding size_number transfer_number
+    → is_no_transfer (scale_of size) (transfer_number transfer) ≡ false
+unfolding transfer_number
 transfer_defined size transfer.Store some = refl
 transfer_defined size transfer.Load some = refl
 transfer_defined size transfer.LoadSigned some = refl
@@ -414,11 +413,11 @@ word-access : (size : Size) (transfer : Transfer) (imm12 : ℕ) (rn rt : Reg) �
     → IsReadAs (word_of (LoadStoreUnsigned size transfer imm12 rn rt)) table (LoadStoreUnsigned size transfer imm12 rn rt)
 unfolding word_of fields_of row_of load_store_unsigned_row
 word-access size transfer imm12 rn rt lawful =
-    read_as 29 table load_store_unsigned_row (size_number size ∷ transfer_number transfer ∷ imm12 ∷ rn.0 ∷ rt.0 ∷ [])
+    read_as 29 table load_store_unsigned_row (scale_of size ∷ transfer_number transfer ∷ imm12 ∷ rn.0 ∷ rt.0 ∷ [])
     (LoadStoreUnsigned size transfer imm12 rn rt) at_load_store_unsigned.at at_load_store_unsigned.others at_load_store_unsigned.whole
-    (size_low size, (lit< tt, (transfer_low transfer, (lawful.0, (lawful.1, (lawful.2, tt))))))
+    (scale_low size, (lit< tt, (transfer_low transfer, (lawful.0, (lawful.1, (lawful.2, tt))))))
     (transfer_defined size transfer lawful.3)
-    (rw (size_of-number size, transfer_of-number transfer) refl)
+    (rw (size_of-scale size, transfer_of-number transfer) refl)
 
 -- each instruction that a line says
 pub has_word : (instr : Instr) → IsLawful instr → IsTrue (is_said instr) → IsReadAs (word_of instr) table instr

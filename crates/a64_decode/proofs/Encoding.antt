@@ -8,7 +8,7 @@ use Rattle.a64_decode.specs.Table.{address_row, add_sub_immediate_row, logical_i
 use Rattle.a64_decode.specs.Codes.{bit}
 use Rattle.a64_decode.specs.Word.{fields_of, row_of, word_of}
 use Rattle.a64_decode.proofs.Words.{field_below, join_whole}
-use Rattle.a64_decode.proofs.Numbers.{bit-flag, size_bit-flag, condition-number, shift-number, extend-number, logical-number, move-number, bitfield-number, branch-number, barrier-number, two_source-number, one_source-number, literal-number, pair-number, mode-number, index-number, size-number, transfer-number, select-op, select-o2, product-op31, product-o0, exception-brk, exception-ll, pstate-op1, pstate-op2, operand-i, operand-bits, unsigned-sign_extend}
+use Rattle.a64_decode.proofs.Numbers.{bit-flag, size_bit-flag, condition-number, shift-number, extend-number, logical-number, move-number, bitfield-number, branch-number, barrier-number, two_source-number, one_source-number, literal-number, pair-number, mode-number, index-number, scale-number, transfer-number, select-op, select-o2, product-op31, product-o0, exception-brk, exception-ll, pstate-op1, pstate-op2, operand-i, operand-bits, unsigned-sign_extend}
 
 -- each word that the row reads is the word of what it makes
 abbrev pub Returns : Row → Type 0
@@ -318,7 +318,7 @@ pub load_store_unsigned-returns : Returns load_store_unsigned_row
 unfolding load_store_unsigned_row word_of fields_of row_of
 load_store_unsigned-returns word below found lawful =
     rw (
-      size-number (field word 31 30) (field_below word 31 30),
+      scale-number (field word 31 30) (field_below word 31 30),
       transfer-number (field word 23 22) (field_below word 23 22),
     )
     (join_whole load_store_unsigned_row.parts word below refl found)
@@ -328,7 +328,7 @@ unfolding load_store_indexed_row word_of fields_of row_of
 load_store_indexed-returns word below found lawful =
     let some_mode : eqb (field word 11 10) 2 ≡ false = grind (arith, nat_tests) in
     rw (
-      size-number (field word 31 30) (field_below word 31 30),
+      scale-number (field word 31 30) (field_below word 31 30),
       transfer-number (field word 23 22) (field_below word 23 22),
       unsigned-sign_extend 256 36028797018963967 (field word 20 12) (lit< tt) (field_below word 20 12),
       index-number (field word 11 10) (field_below word 11 10) some_mode,
@@ -339,7 +339,7 @@ pub load_store_register-returns : Returns load_store_register_row
 unfolding load_store_register_row word_of fields_of row_of
 load_store_register-returns word below found lawful =
     rw (
-      size-number (field word 31 30) (field_below word 31 30),
+      scale-number (field word 31 30) (field_below word 31 30),
       transfer-number (field word 23 22) (field_below word 23 22),
       extend-number (field word 15 13) (field_below word 15 13),
       bit_at word 12,

@@ -4,8 +4,9 @@ use Rattle.std.proofs.lemmas.Bool.{eqb-true}
 use Rattle.std.proofs.Math.Nat.{mod-eq_of_lt, add-mul-mod_self_right}
 use Rattle.std.proofs.lemmas.Bool.Decides.{eqb_tells}
 use Rattle.a64_decode.specs.Operands.{flag, condition_of, shift_of, extend_of, logical_of, move_of, bitfield_of, branch_of, exception_of, barrier_of, pstate_field_of, operand_of, select_of, product_of, two_source_of, one_source_of, literal_of, pair_of, mode_of, index_of, size_of, transfer_of}
-use Rattle.a64_decode.specs.Codes.{bit, size_bit, condition_number, shift_number, extend_number, logical_number, move_number, bitfield_number, branch_number, barrier_number, two_source_number, one_source_number, literal_number, pair_number, mode_number, index_number, size_number, transfer_number, select_op, select_o2, product_op31, product_o0, exception_brk, exception_ll, pstate_op1, pstate_op2, operand_i, operand_bits, unsigned_of}
+use Rattle.a64_decode.specs.Codes.{bit, size_bit, condition_number, shift_number, extend_number, logical_number, move_number, bitfield_number, branch_number, barrier_number, two_source_number, one_source_number, literal_number, pair_number, mode_number, index_number, transfer_number, select_op, select_o2, product_op31, product_o0, exception_brk, exception_ll, pstate_op1, pstate_op2, operand_i, operand_bits, unsigned_of}
 use Rattle.a64_decode.proofs.Words.{both}
+use Rattle.a64_decode.specs.Access.{scale_of}
 
 -- a test that holds of every number below `count`
 abbrev all_below : ℕ → (ℕ → Bool) → Bool
@@ -100,9 +101,8 @@ unfolding index_number
 index-number number below lawful =
     eqb-true _ _ (when_not _ _ (at_below 4 (λ n. eqb n 2 || eqb (index_number (index_of n)) n) refl number below) lawful)
 
-pub size-number : (number : ℕ) → number < 4 → size_number (size_of number) ≡ number
-unfolding size_number
-size-number number below = eqb-true _ _ (at_below 4 (λ n. eqb (size_number (size_of n)) n) refl number below)
+pub scale-number : (number : ℕ) → number < 4 → scale_of (size_of number) ≡ number
+scale-number number below = eqb-true _ _ (at_below 4 (λ n. eqb (scale_of (size_of n)) n) refl number below)
 
 pub transfer-number : (number : ℕ) → number < 4 → transfer_number (transfer_of number) ≡ number
 unfolding transfer_number

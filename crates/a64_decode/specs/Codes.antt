@@ -38,8 +38,6 @@ use Rattle.a64_decode.specs.declared.operand.LiteralKind.{LiteralKind}
 use Rattle.a64_decode.specs.declared.operand.LiteralKind.TheVariants as literal
 use Rattle.a64_decode.specs.declared.operand.PairKind.{PairKind}
 use Rattle.a64_decode.specs.declared.operand.PairKind.TheVariants as pair
-use Rattle.a64_decode.specs.declared.operand.Size.{Size}
-use Rattle.a64_decode.specs.declared.operand.Size.TheVariants as size
 
 unfoldable pub bit : Bool → ℕ
 bit false = 0
@@ -146,12 +144,6 @@ unfoldable pub index_number : IndexMode → ℕ
 index_number Offset = 0
 index_number Post = 1
 index_number Pre = 3
-
-unfoldable pub size_number : Size → ℕ
-size_number size.Byte = 0
-size_number size.Half = 1
-size_number size.Word = 2
-size_number size.Double = 3
 
 unfoldable pub transfer_number : Transfer → ℕ
 transfer_number Store = 0

@@ -6,7 +6,8 @@ use Rattle.a64_decode.specs.declared.instr.Instr.TheVariants.{Address, AddSubImm
 use Rattle.a64_decode.specs.Pattern.{Part, Row}
 use Rattle.a64_decode.specs.Pattern.Part.{Fixed, Free}
 use Rattle.a64_decode.specs.Table.{address_row, add_sub_immediate_row, logical_immediate_row, move_wide_row, bitfield_row, extract_row, branch_row, branch_conditional_row, compare_branch_row, test_branch_row, branch_register_row, exception_return_row, exception_row, hint_row, barrier_row, msr_immediate_row, system_row, system_register_row, logical_shifted_row, add_sub_shifted_row, add_sub_extended_row, add_sub_carry_row, conditional_compare_row, conditional_select_row, three_sources_row, two_sources_row, one_source_row, load_literal_row, pair_row, load_store_unsigned_row, load_store_indexed_row, load_store_register_row}
-use Rattle.a64_decode.specs.Codes.{bit, size_bit, condition_number, shift_number, extend_number, logical_number, move_number, bitfield_number, branch_number, barrier_number, two_source_number, one_source_number, literal_number, pair_number, mode_number, index_number, size_number, transfer_number, select_op, select_o2, product_op31, product_o0, exception_brk, exception_ll, pstate_op1, pstate_op2, operand_i, operand_bits, unsigned_of}
+use Rattle.a64_decode.specs.Codes.{bit, size_bit, condition_number, shift_number, extend_number, logical_number, move_number, bitfield_number, branch_number, barrier_number, two_source_number, one_source_number, literal_number, pair_number, mode_number, index_number, transfer_number, select_op, select_o2, product_op31, product_o0, exception_brk, exception_ll, pstate_op1, pstate_op2, operand_i, operand_bits, unsigned_of}
+use Rattle.a64_decode.specs.Access.{scale_of}
 
 -- the number that these parts are, below bit `top`, with these values of the free fields
 abbrev pub join : ℕ → List Part → List ℕ → ℕ
@@ -59,11 +60,11 @@ fields_of (LoadLiteral kind offset rt) = literal_number kind ∷ unsigned_of 262
 fields_of (Pair kind mode load offset rt2 rn rt) =
     pair_number kind ∷ mode_number mode ∷ bit load ∷ unsigned_of 64 offset ∷ rt2.0 ∷ rn.0 ∷ rt.0 ∷ []
 fields_of (LoadStoreUnsigned size transfer imm12 rn rt) =
-    size_number size ∷ transfer_number transfer ∷ imm12 ∷ rn.0 ∷ rt.0 ∷ []
+    scale_of size ∷ transfer_number transfer ∷ imm12 ∷ rn.0 ∷ rt.0 ∷ []
 fields_of (LoadStoreIndexed size transfer offset mode rn rt) =
-    size_number size ∷ transfer_number transfer ∷ unsigned_of 256 offset ∷ index_number mode ∷ rn.0 ∷ rt.0 ∷ []
+    scale_of size ∷ transfer_number transfer ∷ unsigned_of 256 offset ∷ index_number mode ∷ rn.0 ∷ rt.0 ∷ []
 fields_of (LoadStoreRegister size transfer rm extend scaled rn rt) =
-    size_number size ∷ transfer_number transfer ∷ rm.0 ∷ extend_number extend ∷ bit scaled ∷ rn.0 ∷ rt.0 ∷ []
+    scale_of size ∷ transfer_number transfer ∷ rm.0 ∷ extend_number extend ∷ bit scaled ∷ rn.0 ∷ rt.0 ∷ []
 fields_of Undefined = []
 
 -- the row that makes an instruction

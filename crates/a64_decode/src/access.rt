@@ -1,6 +1,6 @@
 //! What the word of a load or a store says of it by itself.
 
-ghost use Rattle.std.specs.Prelude.{◌≡◌, ◌^◌};
+ghost use Rattle.std.specs.Prelude.{◌≡◌, ◌<◌, ◌^◌};
 ghost use Rattle.a64_decode.specs.Access.{scale_of, pair_size, literal_size, literal_access, single_access, access_of as access_in};
 
 use crate::load_store::is_prefetch;
@@ -35,6 +35,19 @@ impl Size {
             Size::Half => 2,
             Size::Word => 4,
             Size::Double => 8,
+        }
+    }
+
+    /// The logarithm of that, which is the field `size` of a load's or a store's word.
+    pub fn scale(self) -> u32
+        ensures value { result ≡ scale_of self }
+        ensures bound { result < 4 }
+    {
+        match self {
+            Size::Byte => 0,
+            Size::Half => 1,
+            Size::Word => 2,
+            Size::Double => 3,
         }
     }
 }

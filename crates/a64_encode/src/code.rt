@@ -1,13 +1,13 @@
 //! The codes of operands, as they stand in a word.
-#![tactic(auto, unfolding(a64_decode::specs::Codes::bit, a64_decode::specs::Codes::condition_number, a64_decode::specs::Codes::shift_number, a64_decode::specs::Codes::extend_number, a64_decode::specs::Codes::logical_number, a64_decode::specs::Codes::move_number, a64_decode::specs::Codes::bitfield_number, a64_decode::specs::Codes::branch_number, a64_decode::specs::Codes::barrier_number, a64_decode::specs::Codes::two_source_number, a64_decode::specs::Codes::one_source_number, a64_decode::specs::Codes::literal_number, a64_decode::specs::Codes::pair_number, a64_decode::specs::Codes::mode_number, a64_decode::specs::Codes::index_number, a64_decode::specs::Codes::size_number, a64_decode::specs::Codes::transfer_number, a64_decode::specs::Codes::select_op, a64_decode::specs::Codes::select_o2, a64_decode::specs::Codes::product_op31, a64_decode::specs::Codes::product_o0, a64_decode::specs::Codes::exception_brk, a64_decode::specs::Codes::exception_ll, a64_decode::specs::Codes::pstate_op1, a64_decode::specs::Codes::pstate_op2, a64_decode::specs::Codes::operand_i, a64_decode::specs::Codes::operand_bits))]
+#![tactic(auto, unfolding(a64_decode::specs::Codes::bit, a64_decode::specs::Codes::condition_number, a64_decode::specs::Codes::shift_number, a64_decode::specs::Codes::extend_number, a64_decode::specs::Codes::logical_number, a64_decode::specs::Codes::move_number, a64_decode::specs::Codes::bitfield_number, a64_decode::specs::Codes::branch_number, a64_decode::specs::Codes::barrier_number, a64_decode::specs::Codes::two_source_number, a64_decode::specs::Codes::one_source_number, a64_decode::specs::Codes::literal_number, a64_decode::specs::Codes::pair_number, a64_decode::specs::Codes::mode_number, a64_decode::specs::Codes::index_number, a64_decode::specs::Codes::transfer_number, a64_decode::specs::Codes::select_op, a64_decode::specs::Codes::select_o2, a64_decode::specs::Codes::product_op31, a64_decode::specs::Codes::product_o0, a64_decode::specs::Codes::exception_brk, a64_decode::specs::Codes::exception_ll, a64_decode::specs::Codes::pstate_op1, a64_decode::specs::Codes::pstate_op2, a64_decode::specs::Codes::operand_i, a64_decode::specs::Codes::operand_bits))]
 
 ghost use Rattle.std.specs.Prelude.{◌≡◌, ◌<◌};
-ghost use Rattle.a64_decode.specs.Codes.{bit as bit_of, condition_number, shift_number, extend_number, logical_number, move_number, bitfield_number, branch_number, barrier_number, two_source_number, one_source_number, literal_number, pair_number, mode_number, index_number, size_number, transfer_number, select_op as select_op_of, select_o2 as select_o2_of, product_op31 as product_op31_of, product_o0 as product_o0_of, exception_brk as exception_brk_of, exception_ll as exception_ll_of, pstate_op1 as pstate_op1_of, pstate_op2 as pstate_op2_of, operand_i as operand_i_of, operand_bits as operand_bits_of};
+ghost use Rattle.a64_decode.specs.Codes.{bit as bit_of, condition_number, shift_number, extend_number, logical_number, move_number, bitfield_number, branch_number, barrier_number, two_source_number, one_source_number, literal_number, pair_number, mode_number, index_number, transfer_number, select_op as select_op_of, select_o2 as select_o2_of, product_op31 as product_op31_of, product_o0 as product_o0_of, exception_brk as exception_brk_of, exception_ll as exception_ll_of, pstate_op1 as pstate_op1_of, pstate_op2 as pstate_op2_of, operand_i as operand_i_of, operand_bits as operand_bits_of};
 
 use a64_decode::{
     BarrierKind, BitfieldKind, BranchKind, Condition, ExceptionKind, Extend, IndexMode,
     LiteralKind, LogicalKind, MoveKind, OneSourceKind, Operand, PairKind, ProductKind, PstateField,
-    SelectKind, Shift, Size, Transfer, TwoSourceKind,
+    SelectKind, Shift, Transfer, TwoSourceKind,
 };
 
 /// A flag.
@@ -199,18 +199,6 @@ pub(crate) fn index_code(mode: IndexMode) -> u64
         IndexMode::Offset => 0,
         IndexMode::Post => 1,
         IndexMode::Pre => 3,
-    }
-}
-
-pub(crate) fn size_code(size: Size) -> u64
-    ensures code { result ≡ size_number size }
-    ensures bound { result < 4 }
-{
-    match size {
-        Size::Byte => 0,
-        Size::Half => 1,
-        Size::Word => 2,
-        Size::Double => 3,
     }
 }
 

@@ -11,7 +11,7 @@ use crate::code::{
     barrier_code, bit, bitfield_code, branch_code, condition_code, exception_brk, exception_ll,
     extend_code, index_code, literal_code, logical_code, mode_code, one_source_code, operand_bits,
     operand_i, pair_code, product_o0, product_op31, pstate_op1, pstate_op2, select_o2, select_op,
-    shift_code, size_code, transfer_code, two_source_code, wide_move_code,
+    shift_code, transfer_code, two_source_code, wide_move_code,
 };
 use a64_decode::{Instr, Reg, low};
 
@@ -549,7 +549,7 @@ fn load_store(instr: &Instr) -> u64
             rn,
             rt,
         } => {
-            at(30, size_code(size))
+            at(30, u64::from(size.scale()))
                 + at(24, 0b111001)
                 + at(22, transfer_code(transfer))
                 + at(10, u64::from(imm12))
@@ -563,7 +563,7 @@ fn load_store(instr: &Instr) -> u64
             rn,
             rt,
         } => {
-            at(30, size_code(size))
+            at(30, u64::from(size.scale()))
                 + at(24, 0b111000)
                 + at(22, transfer_code(transfer))
                 + at(12, low(offset, 9))
@@ -589,7 +589,7 @@ fn at_register(instr: &Instr) -> u64
             rn,
             rt,
         } => {
-            at(30, size_code(size))
+            at(30, u64::from(size.scale()))
                 + at(24, 0b111000)
                 + at(22, transfer_code(transfer))
                 + at(21, 1)

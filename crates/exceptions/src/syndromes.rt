@@ -1,12 +1,11 @@
 //! The syndromes, as ESR_EL1 and ESR_EL2 have them (ARM DDI 0487, "ESR_EL1").
 
 ghost use Rattle.std.specs.Prelude.{◌≡◌, ◌<◌, ◌^◌, ◌+◌};
-ghost use Rattle.a64_decode.specs.Access.{scale_of};
 ghost use Rattle.a64_decode.specs.Lawful.{IsReg, IsSysId};
 ghost use Rattle.exceptions.specs.Syndrome.{class_number, class_of, syndrome_of, register_write, bit as bit_at, description_of, access_part as access_part_of, is_data_abort, IsAbort, abort_syndrome_of};
 
 use crate::Class;
-use a64_decode::{ExceptionKind, Instr, MemAccess, Reg, Size, access_of};
+use a64_decode::{ExceptionKind, Instr, MemAccess, Reg, access_of};
 use bao_types::SysId;
 
 /// The syndrome of a class, with what the class says more in bits 24 to 0. For an undefined word, PSTATE.IL, and a
@@ -81,23 +80,10 @@ fn description(access: MemAccess) -> u32
     ensures bound { result + 64 < 2 ^ 26 }
 {
     (1 << 24)
-        + scale(access.size) * (1 << 22)
+        + access.size.scale() * (1 << 22)
         + bit(21, access.signed)
         + u32::from(access.rt.0) * (1 << 16)
         + bit(15, access.wide)
-}
-
-/// The logarithm of an element's bytes.
-fn scale(size: Size) -> u32
-    ensures value { result ≡ scale_of size }
-    ensures bound { result < 4 }
-{
-    match size {
-        Size::Byte => 0,
-        Size::Half => 1,
-        Size::Word => 2,
-        Size::Double => 3,
-    }
 }
 
 /// A bit at a place.
