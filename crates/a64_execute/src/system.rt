@@ -1,13 +1,13 @@
 //! MRS, and MSR of a register and of a field of PSTATE, but for the step of PC.
 
-ghost use Rattle.std.specs.Prelude.{◌≡◌, ◌<◌, IsTrue, true, false, bit_or, bit_and, if◌then◌else◌};
+ghost use Rattle.std.specs.Prelude.{◌≡◌, ◌<◌, IsTrue, true, false, bit_or, bit_and};
 ghost use Rattle.a64_decode.specs.Lawful.{IsReg};
 ghost use Rattle.a64_alu.specs.Numbers.{inverted};
 ghost use Rattle.a64_execute.specs.Want.{is_of_core_alone, read_need, register_need};
 ghost use Rattle.a64_execute.specs.System.{with_field, with_access};
 
 use a64_decode::{PstateField, Reg};
-use a64_state::{Core, Mode, pstate};
+use a64_state::{Core, pstate};
 use a64_sysreg::{Moment, SysRead, SysWrite, read_sys, write_sys};
 use bao_types::SysId;
 
@@ -17,20 +17,13 @@ pub(crate) fn write_field(core: &mut Core, field: PstateField, crm: u8)
     ensures { core.new ≡ with_field field crm core.old }
 {
     match field {
-        PstateField::SpSel => select_sp(core, crm % 2 == 1),
+        PstateField::SpSel => core.select_sp(crm % 2 == 1),
         PstateField::DaifSet => core.set_daif(with_set(pstate::daif(core.pstate), u32::from(crm))),
         PstateField::DaifClr => core.set_daif(with_clear(
             pstate::daif(core.pstate),
             u32::from(crm),
         )),
     }
-}
-
-/// Selects EL1's own stack pointer or SP_EL0.
-fn select_sp(core: &mut Core, own: bool)
-    ensures { core.new ≡ with_field PstateField.SpSel (if own then 1 else 0) core.old }
-{
-    core.set_mode(if own { Mode::El1h } else { Mode::El1t });
 }
 
 /// A number of four bits with more of them set.

@@ -1,4 +1,4 @@
-ghost use Rattle.std.specs.Prelude.{◌≡◌, ◌≤◌, ◌<◌};
+ghost use Rattle.std.specs.Prelude.{◌≡◌, ◌≤◌, ◌<◌, if◌then◌else◌};
 
 use crate::{Mode, pstate};
 use bao_types::{IfaceRegs, NO_REGION, RegionFile, TimerRegs};
@@ -192,6 +192,13 @@ impl Core {
         ensures { self.new ≡ record self.old { pstate = with_mode self.old.pstate to } }
     {
         self.pstate = self.pstate / (1 << 5) * (1 << 5) + to.number();
+    }
+
+    /// Selects EL1's own stack pointer or SP_EL0; the core is then at EL1.
+    pub fn select_sp(&mut self, own: bool)
+        ensures { self.new ≡ record self.old { pstate = with_mode self.old.pstate (if own then Mode.El1h else Mode.El1t) } }
+    {
+        self.set_mode(if own { Mode::El1h } else { Mode::El1t });
     }
 
     /// Sets N, Z, C and V to the bits of a number, N the highest; all else of PSTATE stays.

@@ -1,11 +1,10 @@
-ghost use Rattle.std.specs.Prelude.{◌≡◌, if◌then◌else◌};
-ghost use Rattle.a64_state.specs.Mode.{with_mode};
+ghost use Rattle.std.specs.Prelude.{◌≡◌};
 ghost use Rattle.a64_sysreg.specs.Value.{compare_value as compare_value_of};
 ghost use Rattle.a64_sysreg.specs.Table.{row};
 
 use crate::{Moment, Register, SysWrite};
-use a64_state::{Core, Mode};
 use bao_types::ID_END;
+use a64_state::Core;
 use pmsa_regs::{write_base, write_limit, write_select};
 
 /// Writes a register, as far as it may be written.
@@ -19,7 +18,7 @@ pub(crate) fn write(core: &mut Core, moment: Moment, register: Register, value: 
         Register::Spsr => core.sys.spsr = value % (1 << 32),
         Register::Elr => core.sys.elr = value,
         Register::SpEl0 => core.sp0 = value,
-        Register::SpSel => select_sp(core, value % 2 == 1),
+        Register::SpSel => core.select_sp(value % 2 == 1),
         Register::Esr => core.sys.esr = value,
         Register::Far => core.sys.far = value,
         Register::Prselr => write_select(&mut core.regions, value),
@@ -86,13 +85,6 @@ fn end(value: u64) -> SysWrite
     } else {
         SysWrite::Done
     }
-}
-
-/// Selects EL1's own stack pointer or SP_EL0; the core is at EL1.
-fn select_sp(core: &mut Core, own: bool)
-    ensures { core.new ≡ record core.old { pstate = with_mode core.old.pstate (if own then Mode.El1h else Mode.El1t) } }
-{
-    core.set_mode(if own { Mode::El1h } else { Mode::El1t });
 }
 
 /// The compare value of the timer after a write of its timer value: the count and the signed word, in 64 bits.
