@@ -27,6 +27,10 @@ illegal_state pstate = field pstate 20 20 == 1
 abbrev pub masks_irq : ℕ → Bool
 masks_irq pstate = field pstate 7 7 == 1
 
+-- SP, the lowest bit of the mode: which stack pointer EL1 has selected, 0 for SP_EL0 and 1 for its own
+abbrev pub sp_sel : ℕ → ℕ
+sp_sel pstate = field pstate 0 0
+
 -- M, the mode
 abbrev pub mode : ℕ → ℕ
 mode pstate = field pstate 4 0

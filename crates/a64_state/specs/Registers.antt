@@ -3,7 +3,9 @@ use Rattle.std.specs.Prelude.{ℕ, Bool, false, ◌==◌, if◌then◌else◌, s
 use Rattle.bao_types.specs.Bits.{field}
 use Rattle.bao_types.specs.Region.{no_region}
 use Rattle.a64_state.specs.Core.{CoreData}
+use Rattle.a64_state.specs.Mode.{number_of}
 use Rattle.a64_state.specs.Pstate.{mode}
+use Rattle.a64_state.specs.declared.mode.Mode.TheVariants.{El1h}
 
 -- Xn; register 31 reads as zero
 abbrev pub x_of : CoreData → ℕ → ℕ
@@ -17,16 +19,20 @@ with_x core n value = record core { x = if n == 31 then core.x else slice_set co
 abbrev pub level : CoreData → ℕ
 level core = field core.pstate 3 2
 
--- SP: SP_EL1 in the one mode that selects it, else SP_EL0
+-- SP is SP_EL1, in the one mode that selects it
+abbrev pub has_own_sp : CoreData → Bool
+has_own_sp core = mode core.pstate == number_of El1h
+
+-- SP: SP_EL1 where it is selected, else SP_EL0
 abbrev pub sp_of : CoreData → ℕ
-sp_of core = if mode core.pstate == 5 then core.sp1 else core.sp0
+sp_of core = if has_own_sp core then core.sp1 else core.sp0
 
 -- after a write of SP
 abbrev pub with_sp : CoreData → ℕ → CoreData
 with_sp core value =
     record core {
-      sp0 = if mode core.pstate == 5 then core.sp0 else value;
-      sp1 = if mode core.pstate == 5 then value else core.sp1;
+      sp0 = if has_own_sp core then core.sp0 else value;
+      sp1 = if has_own_sp core then value else core.sp1;
     }
 
 -- where an instruction says that 31 is SP, and not the zero register

@@ -9,7 +9,7 @@ use Rattle.bao_types.specs.Bits.{field}
 use Rattle.bao_types.specs.declared.sys_id.SysId.{SysId}
 use Rattle.bao_types.specs.Controller.{id_end}
 use Rattle.a64_state.specs.Registers.{level}
-use Rattle.a64_state.specs.Pstate.{flags, daif, with_flags, with_daif}
+use Rattle.a64_state.specs.Pstate.{flags, daif, sp_sel, with_flags, with_daif}
 use Rattle.vgic_iface.specs.Active.{running}
 use Rattle.pmsa_regs.specs.RegionRegs.{selected, with_select, with_base, with_limit}
 use Rattle.a64_sysreg.specs.declared.register.Register.{Register}
@@ -31,7 +31,7 @@ row Elr = kept (numbered 3 0 4 0 1) at_el1 (λ sys. sys.elr) (λ sys value. reco
 row SpEl0 =
     read_write (numbered 3 0 4 1 0) with_own_sp (λ core moment. core.sp0) (λ core moment value. record core { sp0 = value })
 row SpSel =
-    read_write (numbered 3 0 4 2 0) at_el1 (λ core moment. field core.pstate 0 0)
+    read_write (numbered 3 0 4 2 0) at_el1 (λ core moment. sp_sel core.pstate)
     (λ core moment value. with_sp_sel core value)
 row CurrentEl = read_only (numbered 3 0 4 2 2) at_el1 (λ core moment. level core * 4)
 row IccPmr =
