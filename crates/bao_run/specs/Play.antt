@@ -9,8 +9,7 @@ use Rattle.report.specs.Status.{refusal_text}
 use Rattle.board.specs.Machine.{Machine}
 use Rattle.vm_model.specs.Flat.{Flat, flat_run, entered_count}
 use Rattle.vm_model.specs.Boot.{boot}
-use Rattle.vgic_table.specs.Interrupts.{Interrupts}
-use Rattle.vm_model.specs.Guests.{tables_of}
+use Rattle.vgic_table.specs.Interrupts.{Interrupts, tables_of}
 use Rattle.vm_model.specs.Project.{project}
 use Rattle.bao_run.specs.Call.{InputData, BoardUse}
 use Rattle.hypervisor.specs.Shape.{shape_of}

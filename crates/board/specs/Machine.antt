@@ -6,7 +6,7 @@ use Rattle.bao_types.specs.ByteRange.{address_space_end, end, is_in_one, lies_in
 use Rattle.bao_types.specs.Region.{no_region, access_permission, covers, is_enabled, is_execute_never}
 use Rattle.bao_types.specs.declared.shape.PortSpot.{PortSpot}
 use Rattle.bao_types.specs.Shape.{ShapeData, event_limit, memory_limit, port_range, port_size}
-use Rattle.bao_types.specs.ListReg.{ListRegData, free_registers}
+use Rattle.bao_types.specs.ListReg.{ListRegData, free_registers, lists_at}
 use Rattle.a64_state.specs.Core.{CoreData}
 use Rattle.a64_state.specs.Registers.{reset_core}
 use Rattle.a64_sysreg.specs.declared.moment.Moment.{Moment}
@@ -40,10 +40,7 @@ pub record Machine : Type 0 where
 abbrev pub core_at : List CoreData → ℕ → CoreData
 core_at cores core = slice_index_or cores core (reset_core 0)
 
--- and its list registers
-abbrev pub lists_at : List (List ListRegData) → ℕ → List ListRegData
-lists_at lists core = slice_index_or lists core []
-
+-- and its EL2 protection regions
 abbrev pub entries_at : List (List Region) → ℕ → List Region
 entries_at entries core = slice_index_or entries core []
 

@@ -39,11 +39,12 @@ pub enum Exit {
 /// once with its shape. Every call but `fit` and `entered` asks that it is fitted, and a core, entry or port in a call is one of
 /// the shape's.
 pub trait Board {
-    ghost use Rattle.board.specs.Machine.{Machine, IsFittable, fitted_with, over, AreUsed, IsSafeEntry, with_entry, entries_at, with_core, core_at, lists_at, restarted, with_lists, acked, stepped, step_exit};
+    ghost use Rattle.board.specs.Machine.{Machine, IsFittable, fitted_with, over, AreUsed, IsSafeEntry, with_entry, entries_at, with_core, core_at, restarted, with_lists, acked, stepped, step_exit};
     ghost use Rattle.board.specs.Machine.{port_given};
     ghost use Rattle.a64_state.specs.Registers.{with_x, x_of};
     ghost use Rattle.a64_execute.specs.Branch.{advanced};
     ghost use Rattle.bao_types.specs.Region.{no_region, IsWithinMasks};
+    ghost use Rattle.bao_types.specs.ListReg.{lists_at};
     ghost use Rattle.board.specs.Ports.{outputs, port_count, standard_ports};
     ghost use Rattle.gic_core.specs.Lines.{least_raised};
     ghost use Rattle.board.specs.View.{view_of};

@@ -8,7 +8,7 @@ use Rattle.std.proofs.lemmas.Bool.Decides.{nat_tests}
 use Rattle.std.proofs.lemmas.List.{get_or-set_other, get_or-set_same}
 use Rattle.std.proofs.lemmas.List.Elements.{All-set}
 use Rattle.std.proofs.lemmas.Option.{slice_get_within}
-use Rattle.bao_types.specs.ListReg.{ListRegData, free_registers}
+use Rattle.bao_types.specs.ListReg.{ListRegData, free_registers, lists_at}
 use Rattle.a64_state.specs.Core.{CoreData}
 use Rattle.a64_state.specs.Registers.{with_x, x_of}
 use Rattle.a64_decode.specs.Operands.{loaded}
@@ -16,7 +16,7 @@ use Rattle.a64_execute.specs.Branch.{advanced}
 use Rattle.bao_config.specs.Data.{ConfigData}
 use Rattle.bao_config.specs.Fits.{ConfigFits}
 use Rattle.bao_wellformed.specs.WellFormed.{IsWellFormed}
-use Rattle.board.specs.Machine.{Machine, core_at, lists_at, with_core, with_lists}
+use Rattle.board.specs.Machine.{Machine, core_at, with_core, with_lists}
 use Rattle.vgic_emul.specs.declared.place.FramePlace.{FramePlace}
 use Rattle.vgic_emul.specs.declared.place.FramePlace.TheVariants.{Dist, Redist, Sgi}
 use Rattle.vgic_emul.specs.Effects.{Effect, changed, changed_by_bits, control, core_type, distributor_type, enabled, flags, pending, priorities, with_enabled, with_pending, with_priorities}
@@ -24,14 +24,14 @@ use Rattle.vgic_emul.specs.Registers.{Row, after, answer, distributor_rows, kept
 use Rattle.vgic_table.specs.declared.id_state.IdState.{IdState}
 use Rattle.vgic_table.specs.Changes.{masked}
 use Rattle.vgic_table.specs.Cores.{AreTidy, joined_cores}
-use Rattle.vgic_table.specs.Interrupts.{Interrupts, quiet_interrupts, state_of}
+use Rattle.vgic_table.specs.Interrupts.{Interrupts, quiet_interrupts, state_of, tables_of}
 use Rattle.vgic_table.specs.Registers.{joined}
 use Rattle.vgic_table.specs.Shape.{IsShaped}
 use Rattle.vgic_table.proofs.CoresLemmas.{all_free}
 use Rattle.vgic_table.proofs.StateLemmas.{shaped-with}
 use Rattle.vm_model.specs.Duty.{Emulate, cores_of, done}
 use Rattle.vm_model.specs.Frames.{FrameAccess, accessed, after_access, stored_value}
-use Rattle.vm_model.specs.Guests.{Guests, tables_of}
+use Rattle.vm_model.specs.Guests.{Guests}
 use Rattle.vm_model.specs.Interrupts.{with_table}
 use Rattle.vm_model.specs.Project.{joined_tables, lists_of}
 use Rattle.hypervisor.specs.Change.{Change}

@@ -22,10 +22,10 @@ use Rattle.hypercalls.specs.declared.outcome.Outcome.TheVariants as call
 use Rattle.hypercalls.specs.declared.power.Power.{Power}
 use Rattle.hypercalls.specs.declared.power.Power.TheVariants.{Off}
 use Rattle.shared_windows.specs.Windows.{HearsBy, irq_of, is_member, is_on}
-use Rattle.vgic_table.specs.Interrupts.{Interrupts, quiet_interrupts}
+use Rattle.vgic_table.specs.Interrupts.{Interrupts, quiet_interrupts, tables_of}
 use Rattle.vm_model.specs.Cores.{affinity_of}
 use Rattle.vm_model.specs.Duty.{pended, powers_of, rung, started}
-use Rattle.vm_model.specs.Guests.{Tables, tables_of}
+use Rattle.vm_model.specs.Guests.{Tables}
 use Rattle.vm_model.proofs.Lists.{set_get_other}
 use Rattle.hypervisor.specs.Shape.{core_place, shape_of}
 use Rattle.hypervisor.specs.Tidy.{core_counts}

@@ -6,28 +6,27 @@ use Rattle.std.proofs.lemmas.Bool.{false≢true}
 use Rattle.std.proofs.lemmas.Bool.Decides.{nat_tests}
 use Rattle.std.proofs.lemmas.List.{set-get_or}
 use Rattle.bao_types.specs.IfaceRegs.{IfaceData}
-use Rattle.bao_types.specs.ListReg.{ListRegData}
+use Rattle.bao_types.specs.ListReg.{ListRegData, lists_at}
 use Rattle.bao_types.specs.Controller.{id_end}
 use Rattle.bao_config.specs.Data.{ConfigData}
 use Rattle.bao_config.specs.Fits.{ConfigFits}
 use Rattle.bao_wellformed.specs.WellFormed.{IsWellFormed}
 use Rattle.board.specs.Attempt.{Effect, Outcome, Ran, Acknowledged, Ended, Leave}
 use Rattle.board.specs.Interrupts.{exit_of, lists_after}
-use Rattle.board.specs.Machine.{Machine, carried_out, lists_at, machine_effect}
+use Rattle.board.specs.Machine.{Machine, carried_out, machine_effect}
 use Rattle.board.specs.declared.board.Exit.{Exit}
 use Rattle.board.specs.declared.board.Exit.TheVariants as exit
 use Rattle.vgic_iface.specs.Interface.{best_listed, holds, is_unlisted, lists_acknowledged, lists_ended, with_holder}
 use Rattle.vgic_iface.specs.Interface.{made_inactive as list_inactive}
 use Rattle.vgic_iface.proofs.ListsLemmas.{with_holder-none}
-use Rattle.vgic_table.specs.Interrupts.{Interrupts, best}
+use Rattle.vgic_table.specs.Interrupts.{Interrupts, best, tables_of}
 use Rattle.vgic_table.specs.Changes.{after_acknowledge, after_end, made_inactive}
-use Rattle.vgic_table.specs.Cores.{IsCoreOf, joined_cores, lists_of}
+use Rattle.vgic_table.specs.Cores.{IsCoreOf, joined_cores}
 use Rattle.vgic_table.specs.CoresLaws.{StandFor}
 use Rattle.vgic_table.specs.Shape.{BestIsListed}
 use Rattle.vgic_table.proofs.CoresLemmas.{best-others, core-acknowledges, core-ends, core-last, others, own-tidy, shaped-others, tidy-others}
 use Rattle.vgic_table.proofs.FrameLemmas.{frame-none}
 use Rattle.vgic_table.proofs.JoinedLemmas.{best-joined}
-use Rattle.vm_model.specs.Guests.{tables_of}
 use Rattle.vm_model.specs.Interrupts.{best_of, table_after, table_at, virtual_number, with_table}
 use Rattle.vm_model.specs.Project.{joined_tables}
 use Rattle.hypervisor.specs.Change.{IsListed}
@@ -42,12 +41,12 @@ use Rattle.hypervisor.proofs.Seats.{on_platform}
 
 -- the best interrupt of a core among all of its VM's is the best in the table or the best in its registers
 best_of_cores : (vm : Interrupts) (all : List (List ListRegData)) (core : ℕ) → IsCoreOf vm all core
-    → best (joined_cores 0 all vm) core ≡ min (best vm core) (best_listed (lists_of all core))
+    → best (joined_cores 0 all vm) core ≡ min (best vm core) (best_listed (lists_at all core))
 best_of_cores vm all core is =
     ap (λ t. best t core) (core-last vm all core is vm)
-    ∙ best-joined (others vm all core is vm) core (lists_of all core) below (shaped-others vm all core is vm is.shaped)
-    (tidy-others vm all core is vm (lists_of all core) (own-tidy vm all core is))
-    ∙ ap (λ b. min b (best_listed (lists_of all core))) (best-others vm all core is vm)
+    ∙ best-joined (others vm all core is vm) core (lists_at all core) below (shaped-others vm all core is vm is.shaped)
+    (tidy-others vm all core is vm (lists_at all core) (own-tidy vm all core is))
+    ∙ ap (λ b. min b (best_listed (lists_at all core))) (best-others vm all core is vm)
   where
     below : core < 8
     below = omega (arith, is.few, is.within)

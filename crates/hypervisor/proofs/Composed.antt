@@ -2,13 +2,14 @@
 use Rattle.std.proofs.Common.{◌≡◌, ℕ, Bool, true, false, List, map, refl, sym, ap, subst, ◌∙◌}
 use Rattle.std.specs.Prelude.{◌==◌, ◌||◌, IsTrue, if◌then◌else◌, Option, Some, slice_index_or, slice_set}
 use Rattle.bao_types.specs.Shape.{ShapeData}
+use Rattle.bao_types.specs.ListReg.{lists_at}
 use Rattle.bao_config.specs.Data.{ConfigData}
 use Rattle.bao_config.specs.Fits.{ConfigFits}
 use Rattle.bao_wellformed.specs.Map.{by_map}
 use Rattle.bao_wellformed.specs.WellFormed.{IsWellFormed}
 use Rattle.board.specs.Attempt.{Effect, Outcome, Ran, Acknowledged, Ended, Leave}
 use Rattle.board.specs.Interrupts.{core_after, exit_of}
-use Rattle.board.specs.Machine.{Machine, carried_out, core_at, lists_at, machine_effect, written}
+use Rattle.board.specs.Machine.{Machine, carried_out, core_at, machine_effect, written}
 use Rattle.board.specs.Ports.{all_accessed, raises_line}
 use Rattle.board.specs.Stage.{by_regions}
 use Rattle.board.specs.declared.board.Exit.{Exit}
@@ -17,12 +18,12 @@ use Rattle.board.proofs.Reached.{AllTouched, touched_by_second}
 use Rattle.gic_core.specs.PortLine.{quiet_line}
 use Rattle.hypercalls.specs.declared.power.Power.{Power}
 use Rattle.vgic_iface.specs.Interface.{is_unlisted}
-use Rattle.vgic_table.specs.Interrupts.{Interrupts}
+use Rattle.vgic_table.specs.Interrupts.{Interrupts, tables_of}
 use Rattle.vgic_table.specs.Changes.{made_inactive}
 use Rattle.vm_model.specs.Cores.{place_of}
 use Rattle.vm_model.specs.Duty.{done, duty_of}
 use Rattle.vm_model.specs.Flat.{Flat, flat_duty, flat_effect, flat_guests, flat_left, flat_moment, flat_stepped, platform_places}
-use Rattle.vm_model.specs.Guests.{Guests, Tables, tables_of}
+use Rattle.vm_model.specs.Guests.{Guests, Tables}
 use Rattle.vm_model.specs.Interrupts.{best_of, table_after, virtual_number, with_table}
 use Rattle.vm_model.specs.Project.{is_port_raised, joined_tables, project}
 use Rattle.hypervisor.specs.Change.{Change, IsListed}

@@ -5,7 +5,7 @@ use Rattle.std.specs.Prelude.{◌⊎◌, min, unwrap_or}
 use Rattle.std.proofs.lemmas.Bool.{both_ways}
 use Rattle.std.proofs.lemmas.Bool.Decides.{nat_tests}
 use Rattle.std.proofs.lemmas.List.{get_or-set_same, set-get_or}
-use Rattle.bao_types.specs.ListReg.{ListRegData}
+use Rattle.bao_types.specs.ListReg.{ListRegData, lists_at}
 use Rattle.a64_state.specs.Core.{CoreData}
 use Rattle.bao_config.specs.Data.{ConfigData}
 use Rattle.bao_config.specs.Fits.{ConfigFits}
@@ -14,18 +14,18 @@ use Rattle.board.specs.Attempt.{Outcome, Ran, Acknowledged, Ended, Leave}
 use Rattle.board.specs.declared.board.Exit.{Exit}
 use Rattle.board.specs.declared.board.Exit.TheVariants as exit
 use Rattle.board.specs.Interrupts.{exit_of, is_raised, lines_timed, timed}
-use Rattle.board.specs.Machine.{Machine, carried_out, core_at, exit_after, lists_at, machine_effect, proceeded, step_exit, stepped, ticked, with_lists}
+use Rattle.board.specs.Machine.{Machine, carried_out, core_at, exit_after, machine_effect, proceeded, step_exit, stepped, ticked, with_lists}
 use Rattle.generic_timer.specs.Timer.{line_level, rises}
 use Rattle.gic_core.specs.Lines.{with_ppi}
 use Rattle.vgic_iface.specs.Interface.{best_listed, is_unlisted}
-use Rattle.vgic_table.specs.Interrupts.{Interrupts, best, quiet_interrupts}
+use Rattle.vgic_table.specs.Interrupts.{Interrupts, best, quiet_interrupts, tables_of}
 use Rattle.vgic_table.specs.Registers.{is_due, joined, left_by_registers, refilled, refilled_lists, refilled_table, registers}
 use Rattle.vgic_table.specs.Shape.{BestIsListed}
 use Rattle.vgic_table.specs.Cores.{IsCoreOf, joined_cores}
 use Rattle.vgic_table.proofs.CoresLemmas.{best-others, core-last, core-refills, others, own-tidy, shaped-others, tidy-others}
 use Rattle.vgic_table.proofs.JoinedLemmas.{best-joined}
 use Rattle.vm_model.specs.Flat.{flat_forwarded, flat_ticked}
-use Rattle.vm_model.specs.Guests.{Tables, tables_of}
+use Rattle.vm_model.specs.Guests.{Tables}
 use Rattle.vm_model.specs.Interrupts.{best_of, table_at, virtual_number}
 use Rattle.vm_model.specs.Project.{is_port_raised, joined_tables}
 use Rattle.hypervisor.specs.Again.{filled_again}

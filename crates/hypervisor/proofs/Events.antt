@@ -5,7 +5,7 @@ use Rattle.std.specs.List.{list_any}
 use Rattle.std.proofs.lemmas.Bool.{false≢true}
 use Rattle.std.proofs.lemmas.List.{get_or-set_same}
 use Rattle.bao_types.specs.IfaceRegs.{IfaceData}
-use Rattle.bao_types.specs.ListReg.{ListRegData, is_free}
+use Rattle.bao_types.specs.ListReg.{ListRegData, is_free, lists_at}
 use Rattle.bao_types.specs.Shape.{ShapeData}
 use Rattle.bao_config.specs.Data.{ConfigData}
 use Rattle.bao_config.specs.Fits.{ConfigFits}
@@ -13,7 +13,7 @@ use Rattle.bao_wellformed.specs.Map.{has_core, owner}
 use Rattle.bao_wellformed.specs.WellFormed.{IsWellFormed}
 use Rattle.board.specs.Attempt.{Effect, Outcome, Ran, Acknowledged, Ended, Leave}
 use Rattle.board.specs.Interrupts.{exit_of, is_raised, lists_after, lines_given}
-use Rattle.board.specs.Machine.{Machine, carried_out, exit_after, lists_at, machine_effect, port_given, stepped, ticked}
+use Rattle.board.specs.Machine.{Machine, carried_out, exit_after, machine_effect, port_given, stepped, ticked}
 use Rattle.board.specs.declared.board.Exit.TheVariants as exit
 use Rattle.gic_core.specs.PortLine.{quiet_line}
 use Rattle.vgic_iface.specs.Interface.{best_listed, holds, is_signalled, made_active, with_holder}

@@ -4,15 +4,16 @@ use Rattle.std.specs.Prelude.{IsTrue, if◌then◌else◌, is_some}
 use Rattle.std.proofs.lemmas.Bool.{eqb-true}
 use Rattle.std.proofs.lemmas.Bool.Decides.{nat_tests}
 use Rattle.bao_types.specs.Shape.{ShapeData}
+use Rattle.bao_types.specs.ListReg.{lists_at}
 use Rattle.bao_config.specs.Data.{ConfigData, VmData}
 use Rattle.bao_config.specs.Fits.{ConfigFits}
 use Rattle.bao_wellformed.specs.Map.{has_core, has_port, owner}
 use Rattle.bao_wellformed.specs.WellFormed.{IsWellFormed}
 use Rattle.board.specs.Interrupts.{is_raised}
-use Rattle.board.specs.Machine.{Machine, acked, lists_at}
+use Rattle.board.specs.Machine.{Machine, acked}
 use Rattle.gic_core.specs.Lines.{LinesData, after_ack, least_raised, raised_intids}
 use Rattle.gic_core.specs.PortLine.{quiet_line}
-use Rattle.vgic_table.specs.Interrupts.{Interrupts, place}
+use Rattle.vgic_table.specs.Interrupts.{Interrupts, place, tables_of}
 use Rattle.vgic_table.specs.Changes.{pended_at}
 use Rattle.vgic_table.specs.Cores.{IsCoreOf}
 use Rattle.vgic_table.specs.Shape.{IsShaped}
@@ -20,7 +21,7 @@ use Rattle.vgic_table.proofs.OthersLemmas.{others-shaped}
 use Rattle.vgic_table.proofs.PendedLemmas.{made_pending-at, pended-both, pended-none, pended-same}
 use Rattle.vgic_table.proofs.StateLemmas.{place-within}
 use Rattle.vm_model.specs.Flat.{Flat, flat_forwarded, has_dev}
-use Rattle.vm_model.specs.Guests.{Tables, tables_of}
+use Rattle.vm_model.specs.Guests.{Tables}
 use Rattle.vm_model.specs.Interrupts.{is_line_at, stands_at, virtual_number, with_table}
 use Rattle.vm_model.specs.Project.{is_port_raised, joined_tables, lists_of}
 use Rattle.hypervisor.specs.Change.{Change}

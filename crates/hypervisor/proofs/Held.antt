@@ -7,18 +7,16 @@ use Rattle.std.proofs.lemmas.Bool.Decides.{nat_tests}
 use Rattle.std.proofs.lemmas.List.{get_or-set_other, get_or-set_same, length-map, length-set}
 use Rattle.std.proofs.lemmas.List.Elements.{All-set}
 use Rattle.std.proofs.lemmas.Option.{slice_get_within}
-use Rattle.bao_types.specs.ListReg.{ListRegData}
+use Rattle.bao_types.specs.ListReg.{ListRegData, lists_at}
 use Rattle.bao_config.specs.Data.{ConfigData, VmData}
 use Rattle.bao_config.specs.Fits.{ConfigFits, VmFits}
 use Rattle.bao_wellformed.specs.WellFormed.{IsWellFormed}
 use Rattle.bao_wellformed.proofs.Once.{cores_apart, cores_once}
-use Rattle.board.specs.Machine.{lists_at}
-use Rattle.vgic_table.specs.Interrupts.{Interrupts, quiet_interrupts}
+use Rattle.vgic_table.specs.Interrupts.{Interrupts, quiet_interrupts, tables_of}
 use Rattle.vgic_table.specs.Shape.{IsShaped}
 use Rattle.vgic_table.specs.Cores.{AreTidy, IsCoreOf, joined_cores}
 use Rattle.vgic_table.specs.CoresLaws.{StandFor}
 use Rattle.vm_model.specs.Duty.{cores_of}
-use Rattle.vm_model.specs.Guests.{tables_of}
 use Rattle.vm_model.specs.Interrupts.{with_table}
 use Rattle.vm_model.specs.Project.{joined_tables, lists_of}
 use Rattle.hypervisor.specs.Tidy.{AreHeld, core_counts}

@@ -3,20 +3,20 @@ use Rattle.std.proofs.Common.{◌≡◌, ◌≢◌, ℕ, zero, suc, ◌+◌, ◌
 use Rattle.std.specs.Prelude.{nat_lt, if◌then◌else◌, Some, slice_get, slice_index, slice_set}
 use Rattle.std.proofs.lemmas.Bool.{eq-eqb, eqb-true}
 use Rattle.std.proofs.lemmas.Bool.Decides.{nat_tests}
-use Rattle.bao_types.specs.ListReg.{free_registers}
+use Rattle.bao_types.specs.ListReg.{free_registers, lists_at}
 use Rattle.a64_state.specs.Core.{CoreData}
 use Rattle.bao_config.specs.Data.{ConfigData}
 use Rattle.bao_config.specs.Fits.{ConfigFits}
 use Rattle.bao_wellformed.specs.WellFormed.{IsWellFormed}
-use Rattle.board.specs.Machine.{Machine, lists_at, restarted, with_core}
+use Rattle.board.specs.Machine.{Machine, restarted, with_core}
 use Rattle.gic_core.specs.PortLine.{quiet_line}
 use Rattle.hypercalls.specs.declared.power.Power.{Power}
 use Rattle.hypercalls.specs.declared.power.Power.TheVariants.{On}
 use Rattle.shared_windows.specs.Windows.{irq_of, is_member}
-use Rattle.vgic_table.specs.Interrupts.{Interrupts}
+use Rattle.vgic_table.specs.Interrupts.{Interrupts, tables_of}
 use Rattle.vgic_table.specs.Registers.{joined}
 use Rattle.vm_model.specs.Duty.{cores_of, pended, rung, started, turned_on}
-use Rattle.vm_model.specs.Guests.{Guests, Tables, tables_of}
+use Rattle.vm_model.specs.Guests.{Guests, Tables}
 use Rattle.vm_model.specs.Interrupts.{with_table}
 use Rattle.vm_model.specs.Project.{joined_tables}
 use Rattle.hypervisor.specs.Hyp.{HypData}

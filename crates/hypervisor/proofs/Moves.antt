@@ -4,22 +4,22 @@ use Rattle.std.specs.Prelude.{nat_lt, ◌||◌, if◌then◌else◌, Some, IfSom
 use Rattle.std.proofs.lemmas.Bool.{eq-eqb}
 use Rattle.std.proofs.lemmas.Bool.Decides.{nat_tests}
 use Rattle.std.proofs.lemmas.List.{get_or-set_same}
-use Rattle.bao_types.specs.ListReg.{ListRegData, free_registers}
+use Rattle.bao_types.specs.ListReg.{ListRegData, free_registers, lists_at}
 use Rattle.bao_config.specs.Data.{ConfigData, VmData}
 use Rattle.bao_config.specs.Fits.{ConfigFits, VmFits}
 use Rattle.bao_wellformed.proofs.Fits.{got_fits}
 use Rattle.bao_wellformed.specs.WellFormed.{IsWellFormed}
-use Rattle.board.specs.Machine.{Machine, lists_at, with_lists}
+use Rattle.board.specs.Machine.{Machine, with_lists}
 use Rattle.vgic_iface.specs.Interface.{holds}
 use Rattle.vgic_table.specs.declared.id_state.IdState.{IdState}
-use Rattle.vgic_table.specs.Interrupts.{Interrupts, belongs}
+use Rattle.vgic_table.specs.Interrupts.{Interrupts, belongs, tables_of}
 use Rattle.vgic_table.specs.Registers.{joined, refilled_lists, refilled_table}
 use Rattle.vgic_table.specs.Cores.{IsCoreOf, joined_cores}
 use Rattle.vgic_table.specs.CoresLaws.{CoreRefills, StandFor}
 use Rattle.vgic_table.proofs.StateLemmas.{change_at}
 use Rattle.vgic_table.proofs.CoresLemmas.{core-changes, core-collects, core-refills, shared-change}
 use Rattle.vgic_table.proofs.FrameLemmas.{SameFrame, frame-change, frame-joined, frame-refilled, frame-then, still-core}
-use Rattle.vm_model.specs.Guests.{Tables, tables_of}
+use Rattle.vm_model.specs.Guests.{Tables}
 use Rattle.vm_model.specs.Interrupts.{with_table}
 use Rattle.vm_model.specs.Project.{joined_tables}
 use Rattle.hypervisor.specs.declared.seat.Seat.{Seat}

@@ -4,6 +4,7 @@ use Rattle.std.specs.Prelude.{if◌then◌else◌, Some}
 use Rattle.bao_types.specs.ByteRange.{is_within}
 use Rattle.bao_types.specs.declared.shape.PortSpot.{PortSpot}
 use Rattle.bao_types.specs.Shape.{ShapeData, port_range}
+use Rattle.bao_types.specs.ListReg.{lists_at}
 use Rattle.bao_config.specs.Data.{ConfigData}
 use Rattle.bao_config.specs.declared.config.PortPlace.{PortPlace}
 use Rattle.bao_wellformed.specs.Map.{class_of, by_map}
@@ -11,7 +12,7 @@ use Rattle.board.specs.Stage.{by_regions}
 use Rattle.board.specs.Ports.{PortByte, places_of}
 use Rattle.board.specs.Judge.{reach_of}
 use Rattle.board.specs.Attempt.{step_effect}
-use Rattle.board.specs.Machine.{Machine, core_at, entries_at, lists_at, port_places, machine_effect, machine_reach, moment_at}
+use Rattle.board.specs.Machine.{Machine, core_at, entries_at, port_places, machine_effect, machine_reach, moment_at}
 use Rattle.vgic_iface.specs.Interface.{best_listed, signalled}
 use Rattle.hypervisor.specs.Shape.{port_spot, shape_of}
 use Rattle.hypercalls.specs.declared.power.Power.{Power}

@@ -1,14 +1,14 @@
 -- What follows how a step ended: a call is answered and carried out, a core is parked, or an interrupt ends.
 use Rattle.std.proofs.Common.{◌≡◌, ℕ, Bool, true, false, List, refl, sym, ap, subst, ◌∙◌}
 use Rattle.std.specs.Prelude.{◌&&◌, if◌then◌else◌, Option, None, Some, is_some, slice_get}
-use Rattle.bao_types.specs.ListReg.{ListRegData}
+use Rattle.bao_types.specs.ListReg.{ListRegData, lists_at}
 use Rattle.bao_config.specs.Data.{ConfigData, VmData}
 use Rattle.bao_config.specs.Fits.{ConfigFits}
 use Rattle.bao_wellformed.specs.Map.{owner}
 use Rattle.bao_wellformed.specs.WellFormed.{IsWellFormed}
 use Rattle.board.specs.Attempt.{Outcome, Ran, Acknowledged, Ended, Leave}
 use Rattle.board.specs.Interrupts.{exit_of, is_raised}
-use Rattle.board.specs.Machine.{Machine, carried_out, core_at, lists_at, machine_effect, with_core}
+use Rattle.board.specs.Machine.{Machine, carried_out, core_at, machine_effect, with_core}
 use Rattle.board.specs.declared.board.Exit.{Exit}
 use Rattle.board.specs.declared.board.Exit.TheVariants as exit
 use Rattle.hypercalls.specs.Calls.{answer_of}

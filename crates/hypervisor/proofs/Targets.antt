@@ -2,21 +2,21 @@
 use Rattle.std.proofs.Common.{arith, ◌≡◌, ℕ, suc, ◌+◌, ◌<◌, ◌==◌, Bool, true, false, ◌&&◌, ◌||◌, length, refl, sym, ap, subst, ◌∙◌}
 use Rattle.std.specs.Prelude.{if◌then◌else◌, nat_lt, Some, slice_set}
 use Rattle.std.proofs.lemmas.Bool.Decides.{nat_tests}
-use Rattle.bao_types.specs.ListReg.{free_registers}
+use Rattle.bao_types.specs.ListReg.{free_registers, lists_at}
 use Rattle.bao_config.specs.Data.{ConfigData}
 use Rattle.bao_config.specs.Fits.{ConfigFits}
 use Rattle.bao_wellformed.specs.WellFormed.{IsWellFormed}
-use Rattle.board.specs.Machine.{Machine, lists_at, with_lists}
+use Rattle.board.specs.Machine.{Machine, with_lists}
 use Rattle.vgic_table.specs.declared.id_state.IdState.{IdState}
 use Rattle.vgic_table.specs.Changes.{made_pending, pended_at}
 use Rattle.vgic_table.specs.Cores.{IsCoreOf}
-use Rattle.vgic_table.specs.Interrupts.{Interrupts, place}
+use Rattle.vgic_table.specs.Interrupts.{Interrupts, place, tables_of}
 use Rattle.vgic_table.specs.Registers.{joined}
 use Rattle.vgic_table.specs.Shape.{IsShaped}
 use Rattle.vgic_table.proofs.OthersLemmas.{others-cores, others-shaped}
 use Rattle.vgic_table.proofs.PendedLemmas.{made_pending-at, pended-both, pended-none, pended-same, shaped-pended}
 use Rattle.vgic_table.proofs.StateLemmas.{change_at, place-within}
-use Rattle.vm_model.specs.Guests.{Guests, tables_of}
+use Rattle.vm_model.specs.Guests.{Guests}
 use Rattle.vm_model.specs.Interrupts.{with_table}
 use Rattle.vm_model.specs.Project.{joined_tables, lists_of}
 use Rattle.vm_model.specs.Sent.{is_sent_at, is_target, sent, sent_id}

@@ -2,9 +2,8 @@
 use Rattle.std.specs.Prelude.{ℕ, List, Option, length, map, slice_get, slice_index}
 use Rattle.bao_config.specs.Data.{ConfigData, VmData}
 use Rattle.board.specs.Machine.{Machine}
-use Rattle.vgic_table.specs.Interrupts.{Interrupts, quiet_interrupts}
+use Rattle.vgic_table.specs.Interrupts.{Interrupts, quiet_interrupts, tables_of}
 use Rattle.vm_model.specs.Flat.{Flat}
-use Rattle.vm_model.specs.Guests.{tables_of}
 use Rattle.vm_model.specs.Project.{project}
 use Rattle.hypercalls.specs.declared.power.Power.{Power}
 

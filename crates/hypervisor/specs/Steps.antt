@@ -1,8 +1,9 @@
 -- When a step of a board's core is the step of the model.
 use Rattle.std.specs.Prelude.{◌≡◌, ℕ, List}
+use Rattle.bao_types.specs.ListReg.{lists_at}
 use Rattle.bao_config.specs.Data.{ConfigData}
 use Rattle.bao_wellformed.specs.Map.{class_of}
-use Rattle.board.specs.Machine.{Machine, entries_at, lists_at, machine_effect}
+use Rattle.board.specs.Machine.{Machine, entries_at, machine_effect}
 use Rattle.vgic_iface.specs.Interface.{best_listed}
 use Rattle.hypercalls.specs.declared.power.Power.{Power}
 use Rattle.vm_model.specs.Flat.{flat_effect}

@@ -9,11 +9,11 @@ use Rattle.board.specs.declared.board.Exit.{Exit}
 use Rattle.board.specs.declared.board.Exit.TheVariants as exit
 use Rattle.board.specs.Interrupts.{is_raised}
 use Rattle.board.specs.Machine.{Machine, carried_out, exit_after, machine_effect, port_given, ticked}
-use Rattle.vgic_table.specs.Interrupts.{Interrupts}
+use Rattle.vgic_table.specs.Interrupts.{Interrupts, tables_of}
 use Rattle.vgic_table.specs.Changes.{made_inactive, made_pending}
 use Rattle.vm_model.specs.Duty.{done, duty_of}
 use Rattle.vm_model.specs.Flat.{flat_forwarded, flat_ready, runs}
-use Rattle.vm_model.specs.Guests.{Guests, tables_of}
+use Rattle.vm_model.specs.Guests.{Guests}
 use Rattle.vm_model.specs.Interrupts.{with_table}
 use Rattle.vm_model.specs.Project.{joined_tables}
 use Rattle.hypervisor.specs.Change.{Change, IsListed}

@@ -6,9 +6,8 @@ use Rattle.bao_types.specs.ListReg.{ListRegData}
 use Rattle.gic_core.specs.declared.port_line.PortLine.{PortLine}
 use Rattle.gic_core.specs.PortLine.{quiet_line}
 use Rattle.vgic_table.specs.Cores.{AreTidy}
-use Rattle.vgic_table.specs.Interrupts.{Interrupts}
+use Rattle.vgic_table.specs.Interrupts.{Interrupts, tables_of}
 use Rattle.vgic_table.specs.Shape.{IsShaped}
-use Rattle.vm_model.specs.Guests.{tables_of}
 use Rattle.vm_model.specs.Project.{lists_of}
 use Rattle.hypervisor.specs.Hyp.{HypData}
 use Rattle.hypervisor.specs.Packed.{all_filled, packings}

@@ -1,5 +1,6 @@
 //! Accesses of guests to the emulated interrupt controller of their VM, and interrupts that they send.
 ghost use Rattle.std.specs.Prelude.{◌≡◌, ◌<◌, ◌*◌, ◌^◌, true, length, replicate, slice_get, slice_set, Some};
+ghost use Rattle.vgic_table.specs.Interrupts.{tables_of};
 ghost use Rattle.bao_types.specs.ListReg.{free_registers};
 ghost use Rattle.a64_state.specs.Registers.{with_x, x_of};
 ghost use Rattle.bao_config.specs.Config.{config_data};
@@ -8,7 +9,6 @@ ghost use Rattle.board.specs.Machine.{core_at, with_core};
 ghost use Rattle.vgic_emul.specs.Registers.{after, answer};
 ghost use Rattle.vm_model.specs.Duty.{cores_of, done, Emulate, Send};
 ghost use Rattle.vm_model.specs.Frames.{after_access, stored_value};
-ghost use Rattle.vm_model.specs.Guests.{tables_of};
 ghost use Rattle.vm_model.specs.Project.{lists_of};
 ghost use Rattle.vm_model.specs.Interrupts.{with_table};
 ghost use Rattle.vm_model.specs.Sent.{sent, sent_value};

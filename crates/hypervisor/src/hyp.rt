@@ -1,19 +1,20 @@
 //! What the hypervisor keeps, and what it does at an event.
 ghost use Rattle.std.specs.Prelude.{◌≡◌, ◌+◌, ◌<◌, ◌≤◌, true, length, slice_get, slice_index, slice_set, if◌then◌else◌, ℕ, Some};
+ghost use Rattle.bao_types.specs.ListReg.{lists_at};
 ghost use Rattle.bao_config.specs.Config.{config_data};
 ghost use Rattle.bao_config.specs.Data.{vm_data};
 ghost use Rattle.bao_wellformed.specs.Checked.{checked_data};
 ghost use Rattle.bao_wellformed.specs.Map.{owner};
 ghost use Rattle.bao_wellformed.specs.WellFormed.{IsWellFormed};
-ghost use Rattle.board.specs.Machine.{core_at, lists_at, restarted, with_core};
+ghost use Rattle.board.specs.Machine.{core_at, restarted, with_core};
 ghost use Rattle.hypercalls.specs.Laws.{IsLawful};
 ghost use Rattle.shared_windows.specs.Windows.{irq_of, is_member};
 ghost use Rattle.vgic_table.specs.Registers.{joined};
+ghost use Rattle.vgic_table.specs.Interrupts.{tables_of};
 ghost use Rattle.vm_model.specs.Boot.{boot_power, boot_powers};
 ghost use Rattle.vm_model.specs.Duty.{abort_duty, all_off, answered, arguments, call_duty, call_outcome, carried, cores_of, done, duty_of, pended, powers_of, rung};
 ghost use Rattle.vm_model.specs.Interrupts.{with_table};
 ghost use Rattle.vm_model.specs.Flat.{flat_step, is_entered, is_on};
-ghost use Rattle.vm_model.specs.Guests.{tables_of};
 ghost use Rattle.hypervisor.specs.Change.{IsBestKept, IsLeftToBoard};
 ghost use Rattle.hypervisor.specs.Event.{flat_event, IsPlaced};
 ghost use Rattle.hypervisor.specs.Hyp.{boot_tables, power_of, stands_for};

@@ -1,13 +1,13 @@
 //! Interrupts of the VMs, between their tables and the list registers of their cores.
 ghost use Rattle.std.specs.Prelude.{◌≡◌, ◌<◌, true, length, slice_set, Some, slice_get, unwrap_or};
 ghost use Rattle.bao_types.specs.Controller.{id_end};
-ghost use Rattle.bao_types.specs.ListReg.{free_registers};
+ghost use Rattle.bao_types.specs.ListReg.{free_registers, lists_at};
 ghost use Rattle.bao_config.specs.Config.{config_data};
 ghost use Rattle.bao_wellformed.specs.WellFormed.{IsWellFormed};
-ghost use Rattle.board.specs.Machine.{lists_at, with_lists};
+ghost use Rattle.board.specs.Machine.{with_lists};
 ghost use Rattle.vgic_table.specs.Changes.{made_inactive, made_pending};
 ghost use Rattle.vgic_table.specs.Registers.{joined, refilled};
-ghost use Rattle.vm_model.specs.Guests.{tables_of};
+ghost use Rattle.vgic_table.specs.Interrupts.{tables_of};
 ghost use Rattle.hypervisor.specs.Taken.{ended_guests, guests_of, line_guests, IsForwarded, IsLeft};
 ghost use Rattle.hypervisor.specs.Again.{filled_again};
 ghost use Rattle.hypervisor.specs.Seat.{IsSeat, IsSeatOf};

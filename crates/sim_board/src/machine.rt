@@ -1,10 +1,10 @@
 ghost use Rattle.std.specs.Prelude.{◌≡◌, ℕ, ◌≤◌, ◌<◌, true, false, length, slice_set, map, replicate, All, IfOk};
-ghost use Rattle.bao_types.specs.ListReg.{free_registers};
+ghost use Rattle.bao_types.specs.ListReg.{free_registers, lists_at};
 ghost use Rattle.bao_types.specs.Shape.{shape_data};
 ghost use Rattle.a64_state.specs.Registers.{reset_core};
 ghost use Rattle.bao_types.specs.Region.{no_region};
 ghost use Rattle.board.specs.Interrupts.{exit_of};
-ghost use Rattle.board.specs.Machine.{carried_out, entries_at, lists_at, machine_effect, ticked};
+ghost use Rattle.board.specs.Machine.{carried_out, entries_at, machine_effect, ticked};
 ghost use Rattle.board.specs.Ports.{port_count, standard_ports};
 ghost use Rattle.sim_board.specs.Devices.{states_of};
 ghost use Rattle.sim_board.specs.Sound.{IsSound};

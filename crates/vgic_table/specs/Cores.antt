@@ -1,5 +1,5 @@
 -- The interrupts of a VM of several cores, each with list registers of its own.
-use Rattle.std.specs.Prelude.{ℕ, suc, ◌<◌, ◌≤◌, List, [], ◌∷◌, length, slice_index_or}
+use Rattle.std.specs.Prelude.{ℕ, suc, ◌<◌, ◌≤◌, List, [], ◌∷◌, length}
 use Rattle.bao_types.specs.ListReg.{ListRegData}
 use Rattle.vgic_table.specs.Interrupts.{Interrupts}
 use Rattle.vgic_table.specs.Registers.{Tidy, joined}
@@ -14,10 +14,6 @@ joined_cores core (lists ∷ rest) vm = joined (joined_cores (suc core) rest vm)
 abbrev pub AreTidy : ℕ → List (List ListRegData) → Interrupts → Type 0
 AreTidy core [] vm = Unit {0}
 AreTidy core (lists ∷ rest) vm = Tidy vm core lists × AreTidy (suc core) rest vm
-
--- the registers of one core
-abbrev pub lists_of : List (List ListRegData) → ℕ → List ListRegData
-lists_of registers core = slice_index_or registers core []
 
 -- the core is one of a VM's cores, whose registers fit the table
 pub record IsCoreOf (vm : Interrupts) (registers : List (List ListRegData)) (core : ℕ) : Type 0 where

@@ -19,6 +19,10 @@ quiet = record { enabled = false; priority = 0; pending = false; active = false 
 abbrev pub quiet_interrupts : ℕ → Interrupts
 quiet_interrupts cores = record { on = false; cores = cores; ids = replicate 320 quiet }
 
+-- of a list of several VMs' interrupts, those of each by its place; past the list's end there are none
+abbrev pub tables_of : List Interrupts → ℕ → Interrupts
+tables_of tables vm = slice_index_or tables vm (quiet_interrupts 0)
+
 -- the place of a core's id
 abbrev pub place : ℕ → ℕ → ℕ
 place core id = if nat_lt id 32 then 32 * core + id else 224 + id

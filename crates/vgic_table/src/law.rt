@@ -1,10 +1,10 @@
 ghost use Rattle.std.specs.Prelude.{◌≡◌, ◌<◌, ◌≤◌, ◌==◌, ◌||◌, ℕ, Bool, true, false, List, find, min, None, replicate};
 ghost use Rattle.bao_types.specs.Controller.{id_end};
 ghost use Rattle.bao_types.specs.IfaceRegs.{IfaceData};
-ghost use Rattle.bao_types.specs.ListReg.{free_registers, ListRegData};
+ghost use Rattle.bao_types.specs.ListReg.{free_registers, ListRegData, lists_at};
 ghost use Rattle.vgic_iface.specs.Interface.{best_listed, holds, is_unlisted};
 ghost use Rattle.vgic_table.specs.Changes.{made_inactive, made_pending, pended_at};
-ghost use Rattle.vgic_table.specs.Cores.{IsCoreOf, joined_cores, lists_of};
+ghost use Rattle.vgic_table.specs.Cores.{IsCoreOf, joined_cores};
 ghost use Rattle.vgic_table.specs.CoresLaws.{CoreAcknowledges, CoreCollects, CoreEnds, CoreRefills, StandFor};
 ghost use Rattle.vgic_table.specs.Interrupts.{belongs, best, Interrupts, place};
 ghost use Rattle.vgic_table.specs.Laws.{Acknowledges, Ends, IsFilled, Refills};
@@ -38,16 +38,16 @@ pub fn laws_of_registers()
 /// of the VM is the same for all its cores.
 pub fn laws_of_cores()
     ensures acknowledge { (vm : Interrupts) (all : List (List ListRegData)) (core : ℕ) (iface : IfaceData) →
-        IsCoreOf vm all core → BestIsListed vm core (lists_of all core) → CoreAcknowledges vm all core iface }
+        IsCoreOf vm all core → BestIsListed vm core (lists_at all core) → CoreAcknowledges vm all core iface }
     ensures end { (vm : Interrupts) (all : List (List ListRegData)) (core id : ℕ) → IsCoreOf vm all core →
-        (is_unlisted (lists_of all core) id ≡ true → belongs vm core id ≡ true) → CoreEnds vm all core id }
+        (is_unlisted (lists_at all core) id ≡ true → belongs vm core id ≡ true) → CoreEnds vm all core id }
     ensures collect { (vm : Interrupts) (all : List (List ListRegData)) (core : ℕ) → IsCoreOf vm all core → CoreCollects vm all core }
     ensures refill { (vm : Interrupts) (all : List (List ListRegData)) (core : ℕ) → IsCoreOf vm all core → CoreRefills vm all core }
     ensures pend { (vm : Interrupts) (all : List (List ListRegData)) (core id : ℕ) → IsCoreOf vm all core → id < id_end →
-        belongs vm core id ≡ true → find (holds id) (lists_of all core) ≡ None →
+        belongs vm core id ≡ true → find (holds id) (lists_at all core) ≡ None →
         StandFor (made_pending (joined_cores 0 all vm) core id) all (made_pending vm core id) }
     ensures drop { (vm : Interrupts) (all : List (List ListRegData)) (core id : ℕ) → IsCoreOf vm all core → id < id_end →
-        belongs vm core id ≡ true → find (holds id) (lists_of all core) ≡ None →
+        belongs vm core id ≡ true → find (holds id) (lists_at all core) ≡ None →
         StandFor (made_inactive (joined_cores 0 all vm) core id) all (made_inactive vm core id) }
     ensures free { (vm : Interrupts) (count : ℕ) → StandFor vm (replicate count free_registers) vm }
     ensures shared { (vm : Interrupts) (core id : ℕ) → 32 ≤ id →

@@ -1,10 +1,9 @@
 -- List registers that are all free: what they hold together with a table, and lines that are all quiet.
 use Rattle.std.proofs.Common.{◌≡◌, ℕ, zero, suc, Bool, true, false, List, [], ◌∷◌, map, set, replicate, refl, ap, ◌∙◌}
 use Rattle.std.specs.Prelude.{◌==◌, ◌&&◌, ◌||◌, slice_index_or}
-use Rattle.bao_types.specs.ListReg.{ListRegData, free_registers}
+use Rattle.bao_types.specs.ListReg.{ListRegData, free_registers, lists_at}
 use Rattle.bao_types.specs.declared.shape.CorePlace.{CorePlace}
 use Rattle.bao_types.specs.declared.shape.PortSpot.{PortSpot}
-use Rattle.board.specs.Machine.{lists_at}
 use Rattle.gic_core.specs.PortLine.{quiet_line}
 use Rattle.vgic_table.specs.Interrupts.{Interrupts}
 use Rattle.vgic_table.specs.Registers.{Tidy, joined}

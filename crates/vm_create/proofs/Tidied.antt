@@ -17,11 +17,11 @@ use Rattle.mpu_packer.specs.declared.entries.Plan.{Plan}
 use Rattle.mpu_packer.specs.Runs.{packing_of}
 use Rattle.mpu_packer.proofs.Exact.{packing_is}
 use Rattle.vgic_table.specs.Cores.{AreTidy}
-use Rattle.vgic_table.specs.Interrupts.{quiet_interrupts}
+use Rattle.vgic_table.specs.Interrupts.{quiet_interrupts, tables_of}
 use Rattle.vgic_table.specs.Shape.{IsShaped}
 use Rattle.vm_model.specs.Boot.{boot, boot_power, boot_powers}
 use Rattle.vm_model.specs.Duty.{cores_of}
-use Rattle.vm_model.specs.Guests.{boot_table, tables_of}
+use Rattle.vm_model.specs.Guests.{boot_table}
 use Rattle.vm_model.specs.Project.{is_port_raised, joined_tables, lists_of}
 use Rattle.hypervisor.specs.Hyp.{boot_tables, stands_for}
 use Rattle.hypervisor.specs.Packed.{all_filled, packings}

@@ -1,5 +1,5 @@
 -- What the hypervisor works on: the cores of all VMs, their powers and their interrupts.
-use Rattle.std.specs.Prelude.{ℕ, List, Option, None, Some, length, slice_index_or}
+use Rattle.std.specs.Prelude.{ℕ, List, Option, None, Some, length}
 use Rattle.a64_state.specs.Core.{CoreData}
 use Rattle.bao_config.specs.Data.{VmData}
 use Rattle.hypercalls.specs.declared.power.Power.{Power}
@@ -8,10 +8,6 @@ use Rattle.vgic_table.specs.Interrupts.{Interrupts, quiet_interrupts}
 -- the interrupts of each VM, by its place
 abbrev pub Tables : Type 0
 Tables = ℕ → Interrupts
-
--- of a list of all VMs' interrupts; past its end there are none
-abbrev pub tables_of : List Interrupts → Tables
-tables_of tables v = slice_index_or tables v (quiet_interrupts 0)
 
 -- each core's registers and power by its number, and each VM's interrupts by its place
 pub record Guests : Type 0 where

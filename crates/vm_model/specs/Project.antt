@@ -1,10 +1,10 @@
 -- What a board is to the model.
 use Rattle.std.specs.Prelude.{ℕ, ◌==◌, ◌&&◌, Bool, false, List, map, slice_get, slice_index_or}
 use Rattle.std.specs.List.{list_any}
-use Rattle.bao_types.specs.ListReg.{ListRegData}
+use Rattle.bao_types.specs.ListReg.{ListRegData, lists_at}
 use Rattle.bao_config.specs.Data.{ConfigData}
 use Rattle.gic_core.specs.declared.port_line.PortLine.{PortLine}
-use Rattle.board.specs.Machine.{Machine, lists_at}
+use Rattle.board.specs.Machine.{Machine}
 use Rattle.hypercalls.specs.declared.power.Power.{Power}
 use Rattle.vgic_table.specs.Cores.{joined_cores}
 use Rattle.vm_model.specs.Duty.{cores_of}

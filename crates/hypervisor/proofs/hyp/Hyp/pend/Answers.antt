@@ -1,12 +1,11 @@
 use Rattle.std.proofs.Common.{◌<◌, ap, sym, subst, ◌∙◌}
 use Rattle.std.specs.Prelude.{slice_set}
 use Rattle.std.proofs.lemmas.List.{get_or-set_same, set-set}
-use Rattle.board.specs.Machine.{lists_at}
+use Rattle.bao_types.specs.ListReg.{lists_at}
 use Rattle.vgic_table.specs.Changes.{made_pending}
-use Rattle.vgic_table.specs.Interrupts.{Interrupts, quiet_interrupts}
+use Rattle.vgic_table.specs.Interrupts.{Interrupts, quiet_interrupts, tables_of}
 use Rattle.vgic_table.specs.Registers.{joined}
 use Rattle.vgic_table.proofs.FrameLemmas.{frame-joined}
-use Rattle.vm_model.specs.Guests.{tables_of}
 use Rattle.hypervisor.specs.Hyp.{HypData}
 use Rattle.hypervisor.proofs.hyp.Hyp.pend.Goals as goal
 

@@ -1,8 +1,9 @@
 use Rattle.std.proofs.Common.{ap, ◌∙◌}
 use Rattle.std.specs.Prelude.{unwrap_or}
-use Rattle.board.specs.Machine.{lists_at, with_lists}
+use Rattle.bao_types.specs.ListReg.{lists_at}
+use Rattle.board.specs.Machine.{with_lists}
 use Rattle.vgic_table.specs.Registers.{refilled}
-use Rattle.vm_model.specs.Guests.{tables_of}
+use Rattle.vgic_table.specs.Interrupts.{tables_of}
 use Rattle.hypervisor.specs.Hyp.{HypData}
 use Rattle.hypervisor.proofs.hyp.Hyp.refill.Goals as goal
 
