@@ -28,7 +28,7 @@ use Rattle.board.specs.declared.judged.Judged.{Judged}
 use Rattle.board.specs.declared.judged.Judged.TheVariants.{Memory, Port, Refused}
 use Rattle.board.specs.Ports.{Places, PortStates, PortByte, PortAccess, ReadPort, WritePort, accessed, all_accessed, address_from, element_read, element_stored, element_value, element_written, elements_read, elements_stored, elements_value, elements_written, is_port, number_at, raises_line, stores_from, with_port}
 use Rattle.board.specs.Stage.{Stage, is_allowed, both}
-use Rattle.board.specs.Judge.{all_from, fault_or, first_fault, fault_else, is_free, Reach, reach_of}
+use Rattle.board.specs.Judge.{all_from, fault_or, first_fault, fault_else, has_no_port, Reach, reach_of}
 use Rattle.board.specs.Attempt.{Effect, ran, raised, fetch_aborted, data_aborted, bare_syndrome, alignment_code, code_of, checks_alignment, is_misaligned, is_sp_misaligned, misaligned, at_port, checked, load_effect, store_effect, effect_of, word_effect, fetch_effect, attempt, takes_irq, step_effect}
 use Rattle.board.specs.Machine.{with_byte, written}
 use Rattle.board.specs.Reached.{DisturbsNothingElse, AreAlike, ArePortsAlike, LeavesTheRest, ObservesNothingElse, ReachesPort}
@@ -321,12 +321,12 @@ module _ (one two : Stage) (places : Places) (states : PortStates) (bytes : ℕ 
   by_need instr (need.Load shape) is =
       by_checks instr shape _
       (by_load instr shape (some_bytes shape.width (asked_width core instr shape (ap access_asked is)))
-      (first_fault one two Read shape.at (bytes_of shape)) (is_free places shape.at (bytes_of shape))
+      (first_fault one two Read shape.at (bytes_of shape)) (has_no_port places shape.at (bytes_of shape))
       (number_at bytes shape.at (bytes_of shape)) (elements_value places states bytes shape.at shape.width shape.count) refl)
   by_need instr (need.Store shape value) is =
       by_checks instr shape _
       (by_store instr shape value (some_bytes shape.width (asked_width core instr shape (ap access_asked is)))
-      (first_fault one two Write shape.at (bytes_of shape)) (is_free places shape.at (bytes_of shape)) refl)
+      (first_fault one two Write shape.at (bytes_of shape)) (has_no_port places shape.at (bytes_of shape)) refl)
   by_need instr (need.Raise esr back) is = by_raised esr back None
   by_need instr (need.Leave esr behind) is =
       nothing (effect_of (reach_of one two places states bytes) core moment instr (need.Leave esr behind)) refl refl
@@ -538,14 +538,14 @@ module _ (one two : Stage) (places : Places) (states others : PortStates) (left 
   fetch_by at n (Some fault) some = refl
 
   -- an access of elements of no bytes reaches no port
-  some_width : (at width count : ℕ) → is_free places at (width * count) ≡ false → 1 ≤ width
+  some_width : (at width count : ℕ) → has_no_port places at (width * count) ≡ false → 1 ≤ width
   some_width at zero count is =
       let none : zero * count ≡ 0 = omega arith in
-      let clash : true ≡ false = sym (ap (is_free places at) none) ∙ is in cc
+      let clash : true ≡ false = sym (ap (has_no_port places at) none) ∙ is in cc
   some_width at (suc width) count is = omega arith
 
   load_by : (at width count : ℕ) (fault : Option Fault) (free : Bool) → first_fault one two Read at (width * count) ≡ fault
-      → is_free places at (width * count) ≡ free
+      → has_no_port places at (width * count) ≡ free
       → fault_else fault (if free then Memory (number_at left at (width * count)) else Port (elements_value places states left at width count))
       ≡ fault_else fault (if free then Memory (number_at right at (width * count)) else Port (elements_value places others right at width count))
   load_by at width count None true none free =
@@ -562,7 +562,7 @@ module _ (one two : Stage) (places : Places) (states others : PortStates) (left 
   loaded_alike : (at width count : ℕ)
       → (reach_of one two places states left).loaded at width count ≡ (reach_of one two places others right).loaded at width count
   loaded_alike at width count =
-      load_by at width count (first_fault one two Read at (width * count)) (is_free places at (width * count)) refl refl
+      load_by at width count (first_fault one two Read at (width * count)) (has_no_port places at (width * count)) refl refl
 
   pub reach_alike : reach_of one two places states left ≡ reach_of one two places others right
   reach_alike =

@@ -36,8 +36,8 @@ fault_else None allowed = allowed
 fault_else (Some fault) allowed = Refused fault
 
 -- none of so many bytes from an address on is a port's
-abbrev pub is_free : Places → ℕ → ℕ → Bool
-is_free places at n = all_from (λ byte. not (is_port places byte)) at n
+abbrev pub has_no_port : Places → ℕ → ℕ → Bool
+has_no_port places at n = all_from (λ byte. not (is_port places byte)) at n
 
 -- What a core reaches of the world: the word at an address, a multiple of 4; the number that so many elements of a width from
 -- an address on are; whether it may store to so many, where the number means nothing; and where the ports stand.
@@ -53,9 +53,9 @@ reach_of one two places states bytes =
     record {
       fetched = λ at. fault_else (first_fault one two Exec at 4) (Memory (number_at bytes at 4));
       loaded = λ at width count. fault_else (first_fault one two Read at (width * count))
-          (if is_free places at (width * count) then Memory (number_at bytes at (width * count))
+          (if has_no_port places at (width * count) then Memory (number_at bytes at (width * count))
           else Port (elements_value places states bytes at width count));
       storable = λ at width count. fault_else (first_fault one two Write at (width * count))
-          (if is_free places at (width * count) then Memory 0 else Port 0);
+          (if has_no_port places at (width * count) then Memory 0 else Port 0);
       places = places;
     }

@@ -8,7 +8,7 @@ use Rattle.bao_types.specs.Bytes.{IsWidth, next_address}
 use Rattle.bao_types.specs.ByteRange.{is_within}
 use Rattle.bao_types.specs.Shape.{is_port_of, port_range, port_size}
 use Rattle.bao_types.specs.declared.shape.PortSpot.{PortSpot}
-use Rattle.board.specs.Judge.{is_free}
+use Rattle.board.specs.Judge.{has_no_port}
 use Rattle.board.specs.Machine.{port_places}
 use Rattle.board.specs.Ports.{PortByte as PlaceInPort, is_port}
 
@@ -58,7 +58,7 @@ alike_in_granule (spot ∷ spots) at other bases same =
 free_from : (spots : List PortSpot) (first at n : ℕ) → All (λ spot. spot.base % port_size ≡ 0) spots
     → is_port (port_places spots) first ≡ false
     → ((k : ℕ) → k < n → (first / 64 ≡ (at + k) / 64) × (at + k < 2 ^ 64))
-    → IsTrue (is_free (port_places spots) at n)
+    → IsTrue (has_no_port (port_places spots) at n)
 free_from spots first at zero bases none near = refl
 free_from spots first at (suc n) bases none near =
     let start : first / 64 ≡ at / 64 = (let e = (near 0 (omega arith)).0 in omega (arith, e)) in
@@ -89,6 +89,6 @@ element_inside at width (inr (inr (inr eight))) aligned =
 
 -- an element of which the first byte is no port's has no port's byte
 pub element_free : (spots : List PortSpot) (at width : ℕ) → All (λ spot. spot.base % port_size ≡ 0) spots → IsWidth width
-    → at % width ≡ 0 → at < 2 ^ 64 → is_port (port_places spots) at ≡ false → IsTrue (is_free (port_places spots) at width)
+    → at % width ≡ 0 → at < 2 ^ 64 → is_port (port_places spots) at ≡ false → IsTrue (has_no_port (port_places spots) at width)
 element_free spots at width bases is aligned low none =
     free_from spots at at width bases none (near_bytes at width (element_inside at width is aligned) low)

@@ -5,7 +5,7 @@ use Rattle.std.specs.Bool.{OnTrue}
 use Rattle.board.specs.declared.judged.Fault.{Fault}
 use Rattle.board.specs.declared.judged.Judged.{Judged}
 use Rattle.board.specs.declared.judged.Judged.TheVariants.{Refused}
-use Rattle.board.specs.Judge.{all_from, fault_else, first_fault, is_free}
+use Rattle.board.specs.Judge.{all_from, fault_else, first_fault, has_no_port}
 use Rattle.board.specs.Machine.{port_places}
 use Rattle.board.specs.Stage.{Stage, is_allowed}
 use Rattle.bao_types.specs.declared.access.Access.TheVariants.{Write}
@@ -51,6 +51,6 @@ plain (Some fault) free is = cc
 -- all bytes of a store that is carried out in memory are kept, where what may be stored to is a port's or is kept
 pub kept_in_memory : (one two : Stage) (spots : List PortSpot) (kept : ℕ → Bool)
     → ((at : ℕ) → IsTrue (is_allowed (two Write at)) → IsTrue (is_backed spots kept at)) → (at n : ℕ)
-    → way.Memory ≡ way_of (first_fault one two Write at n) (is_free (port_places spots) at n) → IsTrue (all_from kept at n)
+    → way.Memory ≡ way_of (first_fault one two Write at n) (has_no_port (port_places spots) at n) → IsTrue (all_from kept at n)
 kept_in_memory one two spots kept contained at n is =
     kept_if_free spots kept at n (free_memory _ _ is) (backed_all one two spots kept contained at n (no_fault_memory _ _ is))

@@ -3,7 +3,7 @@ use Rattle.std.proofs.Common.{ℕ, zero, suc, Bool, true, false, List, refl}
 use Rattle.std.specs.Prelude.{IsTrue, ◌&&◌, ◌||◌, not}
 use Rattle.bao_types.specs.declared.shape.PortSpot.{PortSpot}
 use Rattle.bao_types.specs.Bytes.{next_address}
-use Rattle.board.specs.Judge.{all_from, is_free}
+use Rattle.board.specs.Judge.{all_from, has_no_port}
 use Rattle.board.specs.Machine.{port_places}
 use Rattle.board.specs.Ports.{is_port}
 use Rattle.sim_board.specs.Devices.{is_backed}
@@ -27,9 +27,9 @@ kept_one true kept free rest all f b step = cc
 kept_one false true free rest all f b step = step f b
 kept_one false false free rest all f b step = cc
 
-pub kept_if_free : (spots : List PortSpot) (kept : ℕ → Bool) (at n : ℕ) → IsTrue (is_free (port_places spots) at n)
+pub kept_if_free : (spots : List PortSpot) (kept : ℕ → Bool) (at n : ℕ) → IsTrue (has_no_port (port_places spots) at n)
     → IsTrue (all_from (is_backed spots kept) at n) → IsTrue (all_from kept at n)
 kept_if_free spots kept at zero free backed = refl
 kept_if_free spots kept at (suc n) free backed =
-    kept_one (is_port (port_places spots) at) (kept at) (is_free (port_places spots) (next_address at) n) (all_from kept (next_address at) n)
+    kept_one (is_port (port_places spots) at) (kept at) (has_no_port (port_places spots) (next_address at) n) (all_from kept (next_address at) n)
     (all_from (is_backed spots kept) (next_address at) n) free backed (kept_if_free spots kept (next_address at) n)

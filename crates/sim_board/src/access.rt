@@ -4,7 +4,7 @@ ghost use Rattle.std.specs.Bool.{OnTrue};
 ghost use Rattle.bao_types.specs.Bytes.{IsWidth};
 ghost use Rattle.a64_execute.specs.Want.{bytes_of, IsAccess};
 ghost use Rattle.board.specs.Stage.{by_entries, by_regions};
-ghost use Rattle.board.specs.Judge.{all_from, first_fault, is_free};
+ghost use Rattle.board.specs.Judge.{all_from, first_fault, has_no_port};
 ghost use Rattle.board.specs.Attempt.{is_misaligned};
 ghost use Rattle.board.specs.Interrupts.{lines_accessed};
 ghost use Rattle.board.specs.Machine.{port_places, written};
@@ -49,13 +49,13 @@ pub(crate) fn is_plain<D: Devices>(
     requires { IsAccess shape.now }
     ensures { OnTrue result (way.Memory ≡ way_of
         (first_fault (by_regions core.now) (by_entries table.now) access shape.now.at (bytes_of shape.now))
-        (is_free (port_places (D.spots devices.now)) shape.now.at (bytes_of shape.now))) }
+        (has_no_port (port_places (D.spots devices.now)) shape.now.at (bytes_of shape.now))) }
 {
     let count = byte_count(shape) as u8;
     if !passes_at_once(core, table, access, shape.at, count) {
         return false;
     }
-    devices.is_free(shape.at, count)
+    devices.has_no_port(shape.at, count)
 }
 
 /// How a load or a store is carried out.
@@ -70,7 +70,7 @@ pub(crate) fn judge<D: Devices>(
     requires { IsAccess shape.now }
     ensures way { result ≡ way_of
         (first_fault (by_regions core.now) (by_entries table.old) access shape.now.at (bytes_of shape.now))
-        (is_free (port_places (D.spots devices.now)) shape.now.at (bytes_of shape.now)) }
+        (has_no_port (port_places (D.spots devices.now)) shape.now.at (bytes_of shape.now)) }
     ensures entries { table.new ≡ table.old }
 {
     let count = byte_count(shape) as u8;
@@ -83,9 +83,9 @@ pub(crate) fn judge<D: Devices>(
 /// How an access is carried out each of whose bytes is allowed.
 #[inline(always)]
 fn way_allowed<D: Devices>(devices: &D, at: u64, count: u8) -> Way
-    ensures { result ≡ way_of None (is_free (port_places (D.spots devices.now)) at count) }
+    ensures { result ≡ way_of None (has_no_port (port_places (D.spots devices.now)) at count) }
 {
-    if devices.is_free(at, count) {
+    if devices.has_no_port(at, count) {
         Way::Memory
     } else {
         Way::Port

@@ -8,7 +8,7 @@ ghost use Rattle.ports.specs.PortState.{byte_count, output_of};
 ghost use Rattle.ports.specs.Registers.{after_input, after_read, after_write, line_of_input, line_of_write, value_read};
 ghost use Rattle.gic_core.specs.Lines.{LinesData, quiet_lines};
 ghost use Rattle.board.specs.Interrupts.{lines_accessed, lines_given, with_port_if};
-ghost use Rattle.board.specs.Judge.{is_free};
+ghost use Rattle.board.specs.Judge.{has_no_port};
 ghost use Rattle.board.specs.Machine.{port_places};
 ghost use Rattle.board.specs.Ports.{PortStates, all_accessed, element_read, element_written, is_port, outputs, port_count, with_port};
 ghost use Rattle.sim_board.specs.Devices.{least_room, states_of};
@@ -37,8 +37,8 @@ pub(crate) trait Devices {
     ghost lines: { Self → LinesData };
 
     /// Whether none of so many bytes is a port's.
-    fn is_free(&self, at: u64, count: u8) -> bool
-        ensures { result ≡ is_free (port_places (spots self.now)) at count };
+    fn has_no_port(&self, at: u64, count: u8) -> bool
+        ensures { result ≡ has_no_port (port_places (spots self.now)) at count };
 
     /// Reads an element in the port that has its first byte; None where none has.
     fn read(&mut self, at: u64, width: u32) -> Option<u64>
@@ -59,7 +59,7 @@ pub(crate) trait Devices {
         requires aligned { at % width ≡ 0 }
         requires room { 1 ≤ room self.old }
         ensures port { result ≡ is_port (port_places (spots self.old)) at }
-        ensures apart { result ≡ false → IsTrue (is_free (port_places (spots self.old)) at width) }
+        ensures apart { result ≡ false → IsTrue (has_no_port (port_places (spots self.old)) at width) }
         ensures states { states self.new ≡ all_accessed (element_written (port_places (spots self.old) at) width value) (states self.old) }
         ensures lines { lines self.new
             ≡ lines_accessed (element_written (port_places (spots self.old) at) width value) (states self.old) (lines self.old) }
@@ -131,8 +131,8 @@ impl Devices for BoxedPorts {
     ghost lines = { λ devices. devices.lines };
 
     #[inline(always)]
-    fn is_free(&self, at: u64, count: u8) -> bool {
-        self.gap.has_all(at, count) || is_each_free(&self.spots, at, count)
+    fn has_no_port(&self, at: u64, count: u8) -> bool {
+        self.gap.has_all(at, count) || has_no_port_bytewise(&self.spots, at, count)
     }
 
     #[inline(never)]
@@ -210,10 +210,10 @@ impl BoxedPorts {
 
 /// Whether none of so many bytes is a port's, byte by byte.
 #[inline(never)]
-fn is_each_free(spots: &[PortSpot], at: u64, count: u8) -> bool
+fn has_no_port_bytewise(spots: &[PortSpot], at: u64, count: u8) -> bool
     requires numbers { All (λ spot. spot.id < port_count) spots.now }
     requires bases { All (λ spot. spot.base % port_size ≡ 0) spots.now }
-    ensures { result ≡ is_free (port_places spots.now) at count }
+    ensures { result ≡ has_no_port (port_places spots.now) at count }
 {
     if count == 0 {
         return true;
@@ -221,7 +221,7 @@ fn is_each_free(spots: &[PortSpot], at: u64, count: u8) -> bool
     if port_at(spots, at).is_some() {
         return false;
     }
-    is_each_free(spots, at.wrapping_add(1), count - 1)
+    has_no_port_bytewise(spots, at.wrapping_add(1), count - 1)
 }
 
 /// Reads in one port.

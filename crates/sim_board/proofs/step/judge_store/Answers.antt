@@ -4,7 +4,7 @@ use Rattle.a64_execute.specs.Want.{bytes_of}
 use Rattle.phys_bank.specs.Banks.{byte_at, is_kept}
 use Rattle.board.specs.Attempt.{store_effect}
 use Rattle.bao_types.specs.declared.access.Access.TheVariants.{Write}
-use Rattle.board.specs.Judge.{all_from, first_fault, is_free}
+use Rattle.board.specs.Judge.{all_from, first_fault, has_no_port}
 use Rattle.board.specs.declared.judged.Judged.TheVariants.{Memory, Port}
 use Rattle.board.specs.Machine.{port_places}
 use Rattle.board.specs.Stage.{by_entries, by_regions}
@@ -46,4 +46,4 @@ returns-in-Port-clause-end g c =
     (store_effect (port_places spots) c.args.core.now request.fetched.now.moment request.fetched.now.instr shape request.value judged)
     lists bytes states lines)
     (in_ports (first_fault (by_regions c.args.core.now) (by_entries c.args.table.now) Write shape.at (bytes_of shape))
-    (is_free (port_places spots) shape.at (bytes_of shape)) (Memory 0) (Port 0) c.in-Port.ensures.way)
+    (has_no_port (port_places spots) shape.at (bytes_of shape)) (Memory 0) (Port 0) c.in-Port.ensures.way)

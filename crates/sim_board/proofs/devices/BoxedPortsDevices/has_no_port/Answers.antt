@@ -3,7 +3,7 @@ use Rattle.board.specs.Machine.{port_places}
 use Rattle.board.specs.Ports.{is_port}
 use Rattle.sim_board.proofs.Granule.{port_if_one}
 use Rattle.sim_board.proofs.Judged.{all_free}
-use Rattle.sim_board.proofs.devices.BoxedPortsDevices.is_free.Goals as goal
+use Rattle.sim_board.proofs.devices.BoxedPortsDevices.has_no_port.Goals as goal
 
 pub returns-then-has_all : goal.returns-then-has_all
 returns-then-has_all g c =
