@@ -17,7 +17,7 @@ use Rattle.numerals.specs.Numeral.{number_of}
 use Rattle.a64_asm.specs.Number.{hex_word_of}
 use Rattle.a64_asm.specs.Register.{last_name, letter_of, named, numbered, lettered, register_of}
 use Rattle.a64_asm.specs.Mnemonic.{mnemonic_of}
-use Rattle.a64_asm.specs.Operand.{Triple, Fewer, Three, triple_of, is_same, trio_of, base_of, offset_of, system_numbers, target_of, words_in, is_within, words_to}
+use Rattle.a64_asm.specs.Operand.{Triple, Fewer, Three, triple_of, is_same, trio_of, base_of, offset_of, system_numbers, target_of, words_in, fits_field, words_to}
 use Rattle.a64_asm.specs.Reading.{is_shift, moved, move_row, number_added, registers_added, added, add_row, combined, logical_row, transfer_of, transferred, accessed, access, access_row, branch_row, condition_row, compared, compare_row, register_row, exception_row, is_system, system_said, system_row, word_row, alone, row_of, said_in, said_of}
 use Rattle.a64_asm.specs.Source.{IsSayable}
 use Rattle.a64_asm.specs.declared.register.Register.{Register}
@@ -204,7 +204,7 @@ pub near-26 : (target : Result Distance ℕ) → IsNear 26 (words_to 26 target)
 unfolding words_to
 near-26 (Err rule) = tt
 near-26 (Ok distance) =
-    near_if 26 (is_within 26 distance) (words_in distance)
+    near_if 26 (fits_field 26 distance) (words_in distance)
     (λ e. words-26 distance.back distance.bytes
     (and_parts (distance.bytes % 4 == 0) (if distance.back then nat_le distance.bytes (2 ^ 27) else nat_lt distance.bytes (2 ^ 27)) e).1
     (nat_lt 0 (distance.bytes / 4)) refl)
@@ -213,7 +213,7 @@ pub near-19 : (target : Result Distance ℕ) → IsNear 19 (words_to 19 target)
 unfolding words_to
 near-19 (Err rule) = tt
 near-19 (Ok distance) =
-    near_if 19 (is_within 19 distance) (words_in distance)
+    near_if 19 (fits_field 19 distance) (words_in distance)
     (λ e. words-19 distance.back distance.bytes
     (and_parts (distance.bytes % 4 == 0) (if distance.back then nat_le distance.bytes (2 ^ 20) else nat_lt distance.bytes (2 ^ 20)) e).1
     (nat_lt 0 (distance.bytes / 4)) refl)

@@ -135,12 +135,12 @@ words_in distance =
     if distance.back && nat_lt 0 (distance.bytes / 4) then 2 ^ 64 - distance.bytes / 4 else distance.bytes / 4
 
 -- whole words, and so many that they fit a signed field of so many bits
-abbrev pub is_within : ℕ → Distance → Bool
-is_within width distance =
+abbrev pub fits_field : ℕ → Distance → Bool
+fits_field width distance =
     (distance.bytes % 4 == 0)
     && (if distance.back then nat_le distance.bytes (2 ^ (width + 1)) else nat_lt distance.bytes (2 ^ (width + 1)))
 
 -- the offset of a branch with such a field, else the rule that it breaks
 unfoldable pub words_to : ℕ → Result Distance ℕ → Result ℕ ℕ
 words_to width (Err rule) = Err rule
-words_to width (Ok distance) = if is_within width distance then Ok (words_in distance) else Err 2
+words_to width (Ok distance) = if fits_field width distance then Ok (words_in distance) else Err 2

@@ -1,7 +1,7 @@
 //! Labels, and what a branch names.
 ghost use Rattle.std.specs.Prelude.{◌≡◌, ◌<◌, ◌^◌, ◌+◌, ◌≤◌, ℕ, List, length, MatchOption, MatchResult, Some, None};
 ghost use Rattle.std.specs.List.{list_all};
-ghost use Rattle.a64_asm.specs.Operand.{is_letter, is_name_byte, is_name, begins_with_letter, distance_of, signed_of, distance_between, distance_to, target_of, words_in, is_within, words_to};
+ghost use Rattle.a64_asm.specs.Operand.{is_letter, is_name_byte, is_name, begins_with_letter, distance_of, signed_of, distance_between, distance_to, target_of, words_in, fits_field, words_to};
 ghost use Rattle.std.specs.Option.{option_or};
 ghost use Rattle.a64_asm.specs.declared.error.AsmError.TheVariants.{OutOfMemory};
 ghost use Rattle.a64_asm.specs.Labels.{looked_up};
@@ -133,16 +133,16 @@ pub(crate) fn words_to(width: u32, target: Result<Distance, u8>) -> Result<u64, 
     ensures { result ≡ words_to width target }
 {
     let distance = target?;
-    if is_within(width, &distance) {
+    if fits_field(width, &distance) {
         Ok(words_in(&distance))
     } else {
         Err(2)
     }
 }
 
-fn is_within(width: u32, distance: &Distance) -> bool
+fn fits_field(width: u32, distance: &Distance) -> bool
     requires { width < 32 }
-    ensures { result ≡ is_within width distance.now }
+    ensures { result ≡ fits_field width distance.now }
 {
     let limit = 1u64 << (width + 1);
     if distance.bytes % 4 != 0 {
