@@ -3,6 +3,7 @@ use Rattle.std.proofs.Common.{◌≡◌, ℕ, zero, suc, ◌+◌, ◌<◌, ◌�
 use Rattle.std.specs.Prelude.{Err, IsSomeAnd, nat_lt, is_some, unwrap_or, ⊤}
 use Rattle.std.specs.List.{position_from}
 use Rattle.std.specs.Option.{option_map}
+use Rattle.std.specs.Str.{bytes_eq}
 use Rattle.std.proofs.lemmas.Bool.Decides.{nat_tests}
 use Rattle.std.proofs.lemmas.Option.{slice_get-map}
 use Rattle.bao_config.specs.Data.{ConfigData, VmData}
@@ -13,7 +14,7 @@ use Rattle.report.specs.declared.status.FileId.TheVariants as file
 use Rattle.report.specs.declared.status.Status.{Status}
 use Rattle.report.specs.declared.status.Status.TheVariants as status
 use Rattle.vm_model.specs.Apart.{FitRooms}
-use Rattle.bao_run.specs.Words.{Run, same}
+use Rattle.bao_run.specs.Words.{Run}
 use Rattle.bao_run.specs.Ruling.{Ruling, Refused, image_limit, rule_image, rule_images}
 use Rattle.bao_run.specs.Input.{IsFetch, Named, files_of, first_named, image_names}
 use Rattle.bao_run.specs.Reading.{AreImages, HasCome, IsImagesAnswer}
@@ -77,22 +78,22 @@ module _ (name schedule : List ℕ) where
   of_schedule false = refl
 
   first_by_place : (v : ℕ) (vms : List VmData)
-      → unwrap_or (first_named name (names v vms)) file.Schedule ≡ at_place (position_from (λ vm. same vm.image name) v vms)
-  first_by_place v [] = of_schedule (same schedule name)
-  first_by_place v (vm ∷ vms) = by_test (same vm.image name) (first_by_place (v + 1) vms)
+      → unwrap_or (first_named name (names v vms)) file.Schedule ≡ at_place (position_from (λ vm. bytes_eq vm.image name) v vms)
+  first_by_place v [] = of_schedule (bytes_eq schedule name)
+  first_by_place v (vm ∷ vms) = by_test (bytes_eq vm.image name) (first_by_place (v + 1) vms)
     where
-      by_test : (b : Bool) → unwrap_or (first_named name (names (v + 1) vms)) file.Schedule ≡ at_place (position_from (λ vm. same vm.image name) (v + 1) vms)
-          → unwrap_or (option_map (λ (f : Named). f.0) (cond b (Some (file.Image v, vm.image)) (find (λ named. same named.1 name) (names (v + 1) vms)))) file.Schedule
-          ≡ at_place (cond b (Some v) (position_from (λ vm. same vm.image name) (v + 1) vms))
+      by_test : (b : Bool) → unwrap_or (first_named name (names (v + 1) vms)) file.Schedule ≡ at_place (position_from (λ vm. bytes_eq vm.image name) (v + 1) vms)
+          → unwrap_or (option_map (λ (f : Named). f.0) (cond b (Some (file.Image v, vm.image)) (find (λ named. bytes_eq named.1 name) (names (v + 1) vms)))) file.Schedule
+          ≡ at_place (cond b (Some v) (position_from (λ vm. bytes_eq vm.image name) (v + 1) vms))
       by_test true rest = refl
       by_test false rest = rest
 
-  pub first_of_images : (config : List ℕ) (cfg : ConfigData) → same config name ≡ false
+  pub first_of_images : (config : List ℕ) (cfg : ConfigData) → bytes_eq config name ≡ false
       → unwrap_or (first_named name (files_of (Run config schedule) cfg)) file.Schedule
-      ≡ at_place (position_from (λ vm. same vm.image name) 0 cfg.vms)
+      ≡ at_place (position_from (λ vm. bytes_eq vm.image name) 0 cfg.vms)
   first_of_images config cfg other = rw other (first_by_place 0 cfg.vms)
 
-  pub first_is_config : (config : List ℕ) (cfg : ConfigData) → same config name ≡ true
+  pub first_is_config : (config : List ℕ) (cfg : ConfigData) → bytes_eq config name ≡ true
       → unwrap_or (first_named name (files_of (Run config schedule) cfg)) file.Schedule ≡ file.Config
   first_is_config config cfg it = rw it refl
 
@@ -107,15 +108,15 @@ image_found : (schedule : List ℕ) (n v : ℕ) (vms : List VmData) (vm : VmData
 image_found schedule n v [] vm is = cc
 image_found schedule n zero (first ∷ vms) vm is =
     let it : first ≡ vm = cc in
-    let test : same first.image vm.image ≡ true = ap (λ v. same v.image vm.image) it ∙ same_itself vm.image in rw test refl
+    let test : bytes_eq first.image vm.image ≡ true = ap (λ v. bytes_eq v.image vm.image) it ∙ same_itself vm.image in rw test refl
 image_found schedule n (suc v) (first ∷ vms) vm is =
-    either (same first.image vm.image) (file.Image n, first.image) (find (λ named. same named.1 vm.image) (names vm.image schedule (n + 1) vms))
+    either (bytes_eq first.image vm.image) (file.Image n, first.image) (find (λ named. bytes_eq named.1 vm.image) (names vm.image schedule (n + 1) vms))
     (image_found schedule (n + 1) v vms vm is)
 
 schedule_found : (schedule : List ℕ) (n : ℕ) (vms : List VmData) → is_some (first_named schedule (names schedule schedule n vms)) ≡ true
 schedule_found schedule n [] = rw (same_itself schedule) refl
 schedule_found schedule n (vm ∷ vms) =
-    either (same vm.image schedule) (file.Image n, vm.image) (find (λ named. same named.1 schedule) (names schedule schedule (n + 1) vms))
+    either (bytes_eq vm.image schedule) (file.Image n, vm.image) (find (λ named. bytes_eq named.1 schedule) (names schedule schedule (n + 1) vms))
     (schedule_found schedule (n + 1) vms)
 
 told_of : (o : Option FileId) → is_some o ≡ true → o ≡ Some (unwrap_or o file.Schedule)
@@ -127,7 +128,7 @@ pub image_told : (config schedule : List ℕ) (cfg : ConfigData) (v : ℕ) (vm :
     → first_named vm.image (files_of (Run config schedule) cfg) ≡ Some blamed
 image_told config schedule cfg v vm blamed is told =
     told_of (first_named vm.image (files_of (Run config schedule) cfg))
-    (either (same config vm.image) (file.Config, config) (find (λ named. same named.1 vm.image) (names vm.image schedule 0 cfg.vms))
+    (either (bytes_eq config vm.image) (file.Config, config) (find (λ named. bytes_eq named.1 vm.image) (names vm.image schedule 0 cfg.vms))
     (image_found schedule 0 v cfg.vms vm is))
     ∙ ap Some (sym told)
 
@@ -136,7 +137,7 @@ pub schedule_told : (config schedule : List ℕ) (cfg : ConfigData) (blamed : Fi
     → first_named schedule (files_of (Run config schedule) cfg) ≡ Some blamed
 schedule_told config schedule cfg blamed told =
     told_of (first_named schedule (files_of (Run config schedule) cfg))
-    (either (same config schedule) (file.Config, config) (find (λ named. same named.1 schedule) (names schedule schedule 0 cfg.vms))
+    (either (bytes_eq config schedule) (file.Config, config) (find (λ named. bytes_eq named.1 schedule) (names schedule schedule 0 cfg.vms))
     (schedule_found schedule 0 cfg.vms))
     ∙ ap Some (sym told)
 

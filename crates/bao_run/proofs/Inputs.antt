@@ -2,6 +2,7 @@
 use Rattle.std.proofs.Common.{◌≡◌, ℕ, ◌+◌, ◌<◌, ◌≤◌, Bool, true, false, List, [], ◌∷◌, ◌++◌, length, find, cond, drop, map, Option, None, Some, Err, refl, sym, subst, ap, ◌∙◌, arith, append-nil}
 use Rattle.std.specs.Prelude.{Result, Ok, IsSomeAnd, if◌then◌else◌, nat_lt, unwrap_or}
 use Rattle.std.specs.Option.{option_map}
+use Rattle.std.specs.Str.{bytes_eq}
 use Rattle.std.proofs.Math.ListN.{drop_of_length-le}
 use Rattle.std.proofs.lemmas.Bool.Decides.{nat_tests}
 use Rattle.bao_config.specs.Data.{ConfigData, VmData}
@@ -14,7 +15,7 @@ use Rattle.report.specs.declared.status.FileId.TheVariants as file
 use Rattle.report.specs.declared.status.Status.{Status}
 use Rattle.report.specs.declared.status.Status.TheVariants as status
 use Rattle.vm_create.specs.Boot.{ArePlans}
-use Rattle.bao_run.specs.Words.{Command, Run, Check, same}
+use Rattle.bao_run.specs.Words.{Command, Run, Check}
 use Rattle.schedule.specs.Answer.{TellsBroken}
 use Rattle.schedule.specs.Schedule.{Events, schedule_of}
 use Rattle.schedule.specs.declared.error.ScheduleError.{ScheduleError}
@@ -145,8 +146,8 @@ module _ (shelf : ShelfUse) (config schedule : List ℕ) (cfg : ConfigData) (hol
     -- where a name is told as missing, the first file of that name is missed
     module _ (files : Files) (it : HoldsConfig files config cfg) (name : List ℕ) (images : List (List ℕ)) (come : AreImages files cfg.vms images)
         (here : IsNext files name schedule cfg.vms images) (first : FileId) where
-      without_config : (b : Bool) → same config name ≡ b
-          → option_map (λ (f : Named). f.0) (cond b (Some (file.Config, config)) (find (λ named. same named.1 name) (names files name schedule 0 cfg.vms)))
+      without_config : (b : Bool) → bytes_eq config name ≡ b
+          → option_map (λ (f : Named). f.0) (cond b (Some (file.Config, config)) (find (λ named. bytes_eq named.1 name) (names files name schedule 0 cfg.vms)))
           ≡ Some first
           → rule_config (rule_run (lacking name files) schedule) (if b then None else files config) ≡ Missing first
       without_config true is found = cc
@@ -157,7 +158,7 @@ module _ (shelf : ShelfUse) (config schedule : List ℕ) (cfg : ConfigData) (hol
 
       missed_first : first_named name (files_of (Run config schedule) cfg) ≡ Some first
           → rule_command (lacking name files) (Run config schedule) ≡ Missing first
-      missed_first found = without_config (same config name) refl found
+      missed_first found = without_config (bytes_eq config name) refl found
 
     -- a refusal at an image; the shelf had as many faults before it as at the start
     module _ (start : Blame) (same_faults : shelf.before.faults ≡ start.faults) where

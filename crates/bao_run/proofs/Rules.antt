@@ -3,13 +3,13 @@ use Rattle.std.proofs.Common.{◌≡◌, ℕ, suc, ◌+◌, ◌<◌, ◌≤◌, 
 use Rattle.std.specs.Prelude.{if◌then◌else◌, nat_lt}
 use Rattle.std.specs.Option.{option_map}
 use Rattle.std.specs.Cmp.Lexicographic.{other_text}
+use Rattle.std.specs.Str.{bytes_eq}
 use Rattle.std.proofs.lemmas.Bool.Decides.{nat_tests}
 use Rattle.bao_config.specs.Data.{ConfigData, VmData}
 use Rattle.mpu_packer.specs.Runs.{core_runs}
 use Rattle.report.specs.declared.status.FileId.{FileId}
 use Rattle.report.specs.declared.status.FileId.TheVariants as file
 use Rattle.report.specs.declared.status.Status.TheVariants as status
-use Rattle.bao_run.specs.Words.{same}
 use Rattle.outside.specs.Shelf.{Files}
 use Rattle.bao_run.specs.Ruling.{Ruling, Refused, Missing, config_limit, image_limit, rule_config, rule_packing, rule_image, rule_images}
 use Rattle.bao_run.specs.Input.{Named, image_names, first_named, lacking}
@@ -48,10 +48,10 @@ images_pass files next v (vm ∷ vms) (image ∷ images) (held, fits, rest) =
     (images_pass files (λ others. next (image ∷ others)) (v + 1) vms images rest
     ∙ ap (λ n. rule_images files (λ others. next (image ∷ (images ++ others))) n (drop (length images) vms)) place)
 
-pub same_itself : (text : List ℕ) → same text text ≡ true
-same_itself text = by_test (same text text) refl
+pub same_itself : (text : List ℕ) → bytes_eq text text ≡ true
+same_itself text = by_test (bytes_eq text text) refl
   where
-    by_test : (b : Bool) → b ≡ same text text → b ≡ true
+    by_test : (b : Bool) → b ≡ bytes_eq text text → b ≡ true
     by_test true e = refl
     by_test false e = absurd (other_text text text e refl)
 
@@ -64,44 +64,44 @@ module _ (files : Files) (name schedule : List ℕ) where
 
   -- the file after these images has the name
   abbrev pub IsNext : List VmData → List (List ℕ) → Type 0
-  IsNext [] [] = same schedule name ≡ true
+  IsNext [] [] = bytes_eq schedule name ≡ true
   IsNext [] (image ∷ images) = ⊥
-  IsNext (vm ∷ vms) [] = same vm.image name ≡ true
+  IsNext (vm ∷ vms) [] = bytes_eq vm.image name ≡ true
   IsNext (vm ∷ vms) (image ∷ images) = IsNext vms images
 
   pub is_next : (vms : List VmData) (images : List (List ℕ)) → slice_get (map (λ vm. vm.image) vms) (length images) ≡ Some name
       → IsNext vms images
   is_next [] images e = cc
-  is_next (vm ∷ vms) [] e = let it : vm.image ≡ name = cc in subst (λ n. same vm.image n ≡ true) it (same_itself vm.image)
+  is_next (vm ∷ vms) [] e = let it : vm.image ≡ name = cc in subst (λ n. bytes_eq vm.image n ≡ true) it (same_itself vm.image)
   is_next (vm ∷ vms) (image ∷ images) e = is_next vms images e
 
-  pub at_schedule : (vms : List VmData) (images : List (List ℕ)) → length images ≡ length vms → same schedule name ≡ true → IsNext vms images
+  pub at_schedule : (vms : List VmData) (images : List (List ℕ)) → length images ≡ length vms → bytes_eq schedule name ≡ true → IsNext vms images
   at_schedule [] [] e is = is
   at_schedule [] (image ∷ images) e is = absurd (omega arith)
   at_schedule (vm ∷ vms) [] e is = absurd (omega arith)
   at_schedule (vm ∷ vms) (image ∷ images) e is = at_schedule vms images (omega arith) is
 
-  pub missed : (next : List (List ℕ) → Ruling) → (same schedule name ≡ true → (images : List (List ℕ)) → next images ≡ Missing file.Schedule)
+  pub missed : (next : List (List ℕ) → Ruling) → (bytes_eq schedule name ≡ true → (images : List (List ℕ)) → next images ≡ Missing file.Schedule)
       → (v : ℕ) (vms : List VmData) (images : List (List ℕ)) → AreImages files vms images → IsNext vms images
       → (first : FileId) → first_named name (names v vms) ≡ Some first
       → rule_images (lacking name files) next v vms ≡ Missing first
   missed next ends v [] [] come here first found =
-      let it : file.Schedule ≡ first = found_now (same schedule name) here found in ends here [] ∙ ap Missing it
+      let it : file.Schedule ≡ first = found_now (bytes_eq schedule name) here found in ends here [] ∙ ap Missing it
     where
       found_now : (b : Bool) → b ≡ true → option_map (λ (f : Named). f.0) (cond b (Some (file.Schedule, schedule)) None) ≡ Some first → file.Schedule ≡ first
       found_now true e found = cc
       found_now false e found = cc
   missed next ends v [] (image ∷ images) come here first found = absurd come
   missed next ends v (vm ∷ vms) images come here first found =
-      by_test (same vm.image name) refl
+      by_test (bytes_eq vm.image name) refl
       (λ next ends images come here found. missed next ends (v + 1) vms images come here first found) images come here found
     where
-      by_test : (b : Bool) → same vm.image name ≡ b
-          → ((next : List (List ℕ) → Ruling) → (same schedule name ≡ true → (images : List (List ℕ)) → next images ≡ Missing file.Schedule)
+      by_test : (b : Bool) → bytes_eq vm.image name ≡ b
+          → ((next : List (List ℕ) → Ruling) → (bytes_eq schedule name ≡ true → (images : List (List ℕ)) → next images ≡ Missing file.Schedule)
           → (images : List (List ℕ)) → AreImages files vms images → IsNext vms images → first_named name (names (v + 1) vms) ≡ Some first
           → rule_images (lacking name files) next (v + 1) vms ≡ Missing first)
           → (images : List (List ℕ)) → AreImages files (vm ∷ vms) images → IsNext (vm ∷ vms) images
-          → option_map (λ (f : Named). f.0) (cond b (Some (file.Image v, vm.image)) (find (λ named. same named.1 name) (names (v + 1) vms))) ≡ Some first
+          → option_map (λ (f : Named). f.0) (cond b (Some (file.Image v, vm.image)) (find (λ named. bytes_eq named.1 name) (names (v + 1) vms))) ≡ Some first
           → rule_image (λ image. rule_images (lacking name files) (λ images. next (image ∷ images)) (v + 1) vms) v vm (if b then None else files vm.image)
           ≡ Missing first
       by_test true is rest images come here found = cc

@@ -2,6 +2,7 @@
 use Rattle.std.specs.Prelude.{◌≡◌, ◌<◌, ◌≤◌, ◌+◌, ℕ, List, [], ◌∷◌, ◌++◌, All, Vec, Option, Some, None, Result, Ok, Err, IsSomeAnd, if◌then◌else◌, length, map, find}
 use Rattle.std.specs.declared.alloc.Global.{Global}
 use Rattle.std.specs.Option.{option_map}
+use Rattle.std.specs.Str.{bytes_eq}
 use Rattle.bao_types.specs.Shape.{event_limit}
 use Rattle.outside.specs.Shelf.{Files, IfHeld, IfTold}
 use Rattle.outside.specs.Use.{ShelfUse, IsFaultless, HasFailed}
@@ -15,7 +16,7 @@ use Rattle.schedule.specs.Schedule.{Events, schedule_of}
 use Rattle.hypervisor.specs.Event.{IsPlaced}
 use Rattle.vm_model.specs.Apart.{FitRooms}
 use Rattle.vm_create.specs.Boot.{ArePlans}
-use Rattle.bao_run.specs.Words.{Command, Run, Check, Generate, Unknown, IsRun, same}
+use Rattle.bao_run.specs.Words.{Command, Run, Check, Generate, Unknown, IsRun}
 use Rattle.bao_run.specs.Call.{InputData}
 use Rattle.bao_run.specs.Ruling.{Ruling, Refused, Missing, Shown, Accept, rule_command, workload}
 use Rattle.hypervisor.specs.Event.{flat_event}
@@ -40,11 +41,11 @@ files_of Unknown cfg = []
 
 -- the first of these files that has the name
 abbrev pub first_named : List ℕ → List Named → Option FileId
-first_named name files = option_map (λ found. found.0) (find (λ named. same named.1 name) files)
+first_named name files = option_map (λ found. found.0) (find (λ named. bytes_eq named.1 name) files)
 
 -- the contents, but for this name, which is missing
 abbrev pub lacking : List ℕ → Files → Files
-lacking name files other = if same other name then None else files other
+lacking name files other = if bytes_eq other name then None else files other
 
 -- a fault of the shelf at a name. It is told of the first file of a command that has this name; and where the contents
 -- are told, that is the file that would be missing if the name were

@@ -1,6 +1,6 @@
 -- The words of the command line.
-use Rattle.std.specs.Prelude.{ℕ, ◌^◌, ◌==◌, nat_lt, Bool, if◌then◌else◌, List, [], ◌∷◌, Option, None, Some, codes, ⊤}
-use Rattle.std.specs.Cmp.Lexicographic.{pointwise}
+use Rattle.std.specs.Prelude.{ℕ, ◌^◌, nat_lt, if◌then◌else◌, List, [], ◌∷◌, Option, None, Some, codes, ⊤}
+use Rattle.std.specs.Str.{bytes_eq}
 use Rattle.numerals.specs.Numeral.{number_of}
 
 -- the words name a configuration and a schedule to run, or a configuration to check, or the number of a workload to run, or nothing
@@ -41,10 +41,6 @@ IsCheck (Check config) = ⊤
 IsCheck (Generate number) = ⊥
 IsCheck Unknown = ⊥
 
--- two texts are the same
-abbrev pub same : List ℕ → List ℕ → Bool
-same = pointwise ◌==◌
-
 -- a number of 32 bits
 abbrev pub word_number : Option ℕ → Option ℕ
 word_number None = None
@@ -60,6 +56,6 @@ abbrev pub command_of : List (List ℕ) → Command
 command_of [] = Unknown
 command_of (verb ∷ []) = Unknown
 command_of (verb ∷ word ∷ []) =
-    if same verb (codes "check") then Check word else if same verb (codes "gen") then generated (word_number (number_of word)) else Unknown
-command_of (verb ∷ config ∷ schedule ∷ []) = if same verb (codes "run") then Run config schedule else Unknown
+    if bytes_eq verb (codes "check") then Check word else if bytes_eq verb (codes "gen") then generated (word_number (number_of word)) else Unknown
+command_of (verb ∷ config ∷ schedule ∷ []) = if bytes_eq verb (codes "run") then Run config schedule else Unknown
 command_of (verb ∷ config ∷ schedule ∷ other ∷ rest) = Unknown

@@ -3,7 +3,8 @@ ghost use Rattle.outside.specs.Use.{shelf_use};
 ghost use Rattle.bao_wellformed.specs.Checked.{checked_data};
 ghost use Rattle.report.specs.declared.status.FileId.TheVariants as file;
 ghost use Rattle.std.specs.List.{position_from};
-ghost use Rattle.bao_run.specs.Words.{Run, same};
+ghost use Rattle.std.specs.Str.{bytes_eq};
+ghost use Rattle.bao_run.specs.Words.{Run};
 ghost use Rattle.bao_run.specs.Input.{files_of, first_named};
 ghost use Rattle.bao_config.specs.Data.{vm_data};
 ghost use Rattle.bao_run.specs.Reading.{IsImagesAnswer};
@@ -64,7 +65,7 @@ pub fn first_named(config: &str, schedule: &str, checked: &Checked, name: &str) 
 
 /// The place of the first VM whose image has this name.
 fn image_named(checked: &Checked, name: &str) -> Option<u8>
-    ensures { result ≡ position_from (λ vm. same vm.image name.now) 0 (checked_data checked.now).vms }
+    ensures { result ≡ position_from (λ vm. bytes_eq vm.image name.now) 0 (checked_data checked.now).vms }
 {
     for (v, vm) in checked.config().vms.as_slice().iter().enumerate() {
         if vm.image.as_str() == name {
