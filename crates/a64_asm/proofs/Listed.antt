@@ -3,6 +3,7 @@ use Rattle.std.proofs.Common.{◌≡◌, ◌≢◌, ℕ, ◌+◌, ◌*◌, ◌/�
 use Rattle.std.specs.Prelude.{Option, None, Some, Ok, Err, ◌==◌, ◌&&◌, nat_le, if◌then◌else◌, unwrap_or}
 use Rattle.std.specs.List.{flat_map, AllByRecursion}
 use Rattle.std.proofs.lemmas.Bool.{and_parts, eqb-true, leb-true, lt-ltb}
+use Rattle.bao_types.specs.Bytes.{little_endian, low_bytes}
 use Rattle.a64_decode.specs.declared.instr.Instr.{Instr}
 use Rattle.a64_decode.specs.declared.instr.Instr.TheVariants as instr
 use Rattle.a64_decode.specs.declared.operand.Reg.{Reg}
@@ -17,9 +18,9 @@ use Rattle.a64_decode.specs.Table.{decoded}
 use Rattle.a64_encode.proofs.Made.{encoded-made}
 use Rattle.a64_asm.specs.Register.{named}
 use Rattle.a64_asm.specs.Mnemonic.{name_of}
-use Rattle.a64_asm.specs.Listing.{registers_text, transfer_form, form_of, raw_text, text_of, line_of_word, word_at, words_of, listing, is_image_length}
+use Rattle.a64_asm.specs.Listing.{registers_text, transfer_form, form_of, raw_text, text_of, line_of_word, words_of, listing, is_image_length}
 use Rattle.a64_asm.specs.Reading.{transfer_of}
-use Rattle.a64_asm.specs.Source.{label_in, label_of, is_word, next_of, beginning, lines_of, definitions, word_said, image_limit, within_limit, judged_by, judged, broken_by, bytes_of, bytes_in, Image, unless_bad, assembled_from, assembled}
+use Rattle.a64_asm.specs.Source.{label_in, label_of, is_word, next_of, beginning, lines_of, definitions, word_said, image_limit, within_limit, judged_by, judged, broken_by, bytes_in, Image, unless_bad, assembled_from, assembled}
 use Rattle.a64_asm.specs.declared.label.Definition.{Definition}
 use Rattle.a64_asm.specs.declared.said.Said.{Said}
 use Rattle.a64_asm.specs.declared.said.Said.TheVariants.{Instruction, Raw}
@@ -207,7 +208,7 @@ next_place : (here : Definition) (text : List ℕ) → is_word text ≡ true →
 next_place here text counts = rw counts refl
 
 words_back : (labels : List ℕ → Option Definition) (words bytes : List ℕ) (here : Definition) → AreWords words → here.place + length words ≤ image_limit / 4
-    → assembled_from labels bytes here (parts_of words) ≡ Image (bytes ++ flat_map bytes_of words)
+    → assembled_from labels bytes here (parts_of words) ≡ Image (bytes ++ flat_map (low_bytes 4) words)
 unfolding assembled_from
 words_back labels [] bytes here small room = ap Image (sym (append-nil bytes))
 words_back labels (word ∷ words) bytes here small room =
@@ -216,25 +217,25 @@ words_back labels (word ∷ words) bytes here small room =
     let said = back.judged_is labels here (omega (arith, room)) in
     next_line labels bytes here text (parts_of words) (some_parts words)
     ∙ ap (λ j. unless_bad (here.line + 1) (broken_by j) (assembled_from labels (bytes ++ bytes_in j) (next_of here text) (parts_of words))) said
-    ∙ words_back labels words (bytes ++ bytes_of word) (next_of here text) small.1 (omega (arith, room, next_place here text back.counts))
-    ∙ ap Image (append_assoc bytes (bytes_of word) (flat_map bytes_of words))
+    ∙ words_back labels words (bytes ++ low_bytes 4 word) (next_of here text) small.1 (omega (arith, room, next_place here text back.counts))
+    ∙ ap Image (append_assoc bytes (low_bytes 4 word) (flat_map (low_bytes 4) words))
 
 abbrev AreBytes : List ℕ → Type 0
 AreBytes image = AllByRecursion (λ byte. byte < 256) image
 
 -- four bytes
-bytes_back : (a b c d : ℕ) → a < 256 → b < 256 → c < 256 → d < 256 → bytes_of (word_at (a ∷ b ∷ c ∷ d ∷ [])) ≡ a ∷ b ∷ c ∷ d ∷ []
+bytes_back : (a b c d : ℕ) → a < 256 → b < 256 → c < 256 → d < 256 → low_bytes 4 (little_endian (a ∷ b ∷ c ∷ d ∷ [])) ≡ a ∷ b ∷ c ∷ d ∷ []
 bytes_back a b c d a_low b_low c_low d_low =
-    let word = a + 256 * b + 65536 * c + 16777216 * d in
+    let word = little_endian (a ∷ b ∷ c ∷ d ∷ []) in
     let one : word % 256 ≡ a = omega arith in
     let two : word / 256 % 256 ≡ b = omega arith in
-    let three : word / 65536 % 256 ≡ c = omega arith in
-    let four : word / 16777216 % 256 ≡ d = omega arith in
+    let three : word / 256 / 256 % 256 ≡ c = omega arith in
+    let four : word / 256 / 256 / 256 % 256 ≡ d = omega arith in
     λ i. one i ∷ two i ∷ three i ∷ four i ∷ []
 
 pub record IsWholeImage (image : List ℕ) : Type 0 where
   pub small : AreWords (words_of image)
-  pub back : flat_map bytes_of (words_of image) ≡ image
+  pub back : flat_map (low_bytes 4) (words_of image) ≡ image
   pub count : 4 * length (words_of image) ≡ length image
 
 whole_image : (image : List ℕ) → AreBytes image → length image % 4 ≡ 0 → IsWholeImage image
@@ -248,7 +249,7 @@ whole_image (a ∷ b ∷ c ∷ d ∷ rest) bytes whole =
     record {
       small = (omega (arith, bytes.0, bytes.1.0, bytes.1.1.0, bytes.1.1.1.0), others.small);
       back =
-          ap (λ ws. ws ++ flat_map bytes_of (words_of rest)) (bytes_back a b c d bytes.0 bytes.1.0 bytes.1.1.0 bytes.1.1.1.0)
+          ap (λ ws. ws ++ flat_map (low_bytes 4) (words_of rest)) (bytes_back a b c d bytes.0 bytes.1.0 bytes.1.1.0 bytes.1.1.1.0)
           ∙ ap (λ r. a ∷ b ∷ c ∷ d ∷ r) others.back;
       count = omega (arith, others.count);
     }

@@ -1,7 +1,8 @@
 -- The listing: the text of each word, by the form that its instruction has.
-use Rattle.std.specs.Prelude.{◌≡◌, ℕ, ◌+◌, ◌*◌, ◌%◌, ◌==◌, ◌&&◌, ◌||◌, nat_le, not, Bool, true, false, if◌then◌else◌, List, [], ◌∷◌, ◌++◌, Option, None, Some, codes, unwrap_or, slice_index, IsTrue, IsFalse}
+use Rattle.std.specs.Prelude.{◌≡◌, ℕ, ◌+◌, ◌*◌, ◌%◌, ◌==◌, ◌&&◌, ◌||◌, nat_le, not, Bool, true, false, if◌then◌else◌, List, [], ◌∷◌, ◌++◌, Option, None, Some, codes, unwrap_or, IsTrue, IsFalse}
 use Rattle.std.specs.List.{flat_map}
 use Rattle.std.specs.Fmt.{decimal}
+use Rattle.bao_types.specs.Bytes.{little_endian}
 use Rattle.bao_types.specs.declared.sys_id.SysId.{SysId}
 use Rattle.a64_decode.specs.declared.instr.Instr.{Instr}
 use Rattle.a64_decode.specs.declared.instr.Instr.TheVariants as instr
@@ -171,14 +172,9 @@ text_of word = unwrap_or (form_of (decoded word)) (raw_text word)
 unfoldable pub line_of_word : ℕ → List ℕ
 line_of_word word = text_of word ++ 10 ∷ []
 
--- the word of four bytes, of which the first is the lowest
-abbrev pub word_at : List ℕ → ℕ
-word_at bytes =
-    slice_index bytes 0 + 256 * slice_index bytes 1 + 65536 * slice_index bytes 2 + 16777216 * slice_index bytes 3
-
--- the words of an image
+-- the words of an image, each of four bytes, the lowest first
 unfoldable pub words_of : List ℕ → List ℕ
-words_of (a ∷ b ∷ c ∷ d ∷ rest) = word_at (a ∷ b ∷ c ∷ d ∷ []) ∷ words_of rest
+words_of (a ∷ b ∷ c ∷ d ∷ rest) = little_endian (a ∷ b ∷ c ∷ d ∷ []) ∷ words_of rest
 words_of _ = []
 
 -- a line for each word

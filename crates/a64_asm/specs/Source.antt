@@ -1,8 +1,9 @@
 -- The image that the lines of a source say, or the first line that breaks a rule.
-use Rattle.std.specs.Prelude.{◌≡◌, ℕ, ◌+◌, ◌/◌, ◌%◌, ◌==◌, ◌&&◌, nat_lt, not, Bool, true, false, if◌then◌else◌, List, [], ◌∷◌, ◌++◌, Option, None, Some, Result, Ok, Err, IsTrue, is_none, ⊤}
+use Rattle.std.specs.Prelude.{◌≡◌, ℕ, ◌+◌, ◌==◌, ◌&&◌, nat_lt, not, Bool, true, false, if◌then◌else◌, List, [], ◌∷◌, ◌++◌, Option, None, Some, Result, Ok, Err, IsTrue, is_none, ⊤}
 use Rattle.std.specs.Option.{option_or}
 use Rattle.std.specs.List.{slice_split}
 use Rattle.std.specs.Str.{bytes_eq}
+use Rattle.bao_types.specs.Bytes.{low_bytes}
 use Rattle.a64_decode.specs.declared.instr.Instr.{Instr}
 use Rattle.a64_decode.specs.declared.instr.Instr.TheVariants as instr
 use Rattle.a64_decode.specs.Lawful.{IsLawful}
@@ -92,14 +93,11 @@ abbrev pub broken_by : Result (Option ℕ) ℕ → Option ℕ
 broken_by (Err rule) = Some rule
 broken_by (Ok word) = None
 
--- the four bytes of a word, the lowest first
-abbrev pub bytes_of : ℕ → List ℕ
-bytes_of word = (word % 256) ∷ (word / 256 % 256) ∷ (word / 65536 % 256) ∷ (word / 16777216 % 256) ∷ []
-
+-- the bytes of a line: the four of its word, the lowest first, where it has one
 abbrev pub bytes_in : Result (Option ℕ) ℕ → List ℕ
 bytes_in (Err rule) = []
 bytes_in (Ok None) = []
-bytes_in (Ok (Some word)) = bytes_of word
+bytes_in (Ok (Some word)) = low_bytes 4 word
 
 -- the image, or the number of the first line that breaks a rule, counted from 1, with the first rule that it breaks
 pub data Assembled : Type 0 where

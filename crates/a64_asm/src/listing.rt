@@ -5,7 +5,8 @@ ghost use Rattle.a64_decode.specs.Lawful.{IsLawful};
 ghost use Rattle.a64_asm.specs.Number.{IsOffset};
 ghost use Rattle.a64_asm.specs.Register.{register_text};
 ghost use Rattle.a64_asm.specs.Mnemonic.{name_of};
-ghost use Rattle.a64_asm.specs.Listing.{phrase, move_text, add_text, registers_text, access_text, branch_text, compare_text, system_name, system_text, is_unshifted, is_named, is_condition, transfer_form, access_form, form_of, raw_text, line_of_word, word_at, listing, is_image_length, Pushes, TellsLength};
+ghost use Rattle.bao_types.specs.Bytes.{little_endian};
+ghost use Rattle.a64_asm.specs.Listing.{phrase, move_text, add_text, registers_text, access_text, branch_text, compare_text, system_name, system_text, is_unshifted, is_named, is_condition, transfer_form, access_form, form_of, raw_text, line_of_word, listing, is_image_length, Pushes, TellsLength};
 
 use crate::error::ListError;
 use crate::mnemonic::{Mnemonic, name};
@@ -404,10 +405,8 @@ fn list_words(alloc: Global, image: &[u8]) -> Result<Vec<u8>, ListError>
 /// The word of four bytes, of which the first is the lowest.
 fn word_at(bytes: &[u8]) -> u32
     requires { length bytes.now ≡ 4 }
-    ensures { result ≡ word_at bytes.now }
+    ensures { result ≡ little_endian bytes.now }
 {
-    u32::from(bytes[0])
-        + 256 * u32::from(bytes[1])
-        + 65536 * u32::from(bytes[2])
-        + 16_777_216 * u32::from(bytes[3])
+    let high = u32::from(bytes[2]) + 256 * u32::from(bytes[3]);
+    u32::from(bytes[0]) + 256 * (u32::from(bytes[1]) + 256 * high)
 }

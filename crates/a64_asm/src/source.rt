@@ -2,7 +2,8 @@
 ghost use Rattle.std.specs.Prelude.{◌≡◌, ◌+◌, ◌<◌, ◌^◌, ◌++◌, length, if◌then◌else◌, OnOk, MatchResult};
 ghost use Rattle.a64_asm.specs.Labels.{looked_up};
 ghost use Rattle.a64_asm.specs.Reading.{said_of};
-ghost use Rattle.a64_asm.specs.Source.{judged, within_limit, is_repeated, word_said, bytes_of, assembled, Image, IsSayable, TellsBroken};
+ghost use Rattle.bao_types.specs.Bytes.{low_bytes};
+ghost use Rattle.a64_asm.specs.Source.{judged, within_limit, is_repeated, word_said, assembled, Image, IsSayable, TellsBroken};
 ghost use Rattle.a64_asm.specs.Progress.{TakesLine, IsRefused};
 
 use crate::error::AsmError;
@@ -89,14 +90,9 @@ impl Progress {
 
 /// Appends the four bytes of a word, the lowest first.
 fn push_bytes(image: &mut Vec<u8>, word: u32) -> Result<(), AllocError>
-    ensures { OnOk result (image.new.items ≡ image.old.items ++ bytes_of word) }
+    ensures { OnOk result (image.new.items ≡ image.old.items ++ low_bytes 4 word) }
 {
-    image.extend_from_slice(&[
-        (word % 256) as u8,
-        (word / 256 % 256) as u8,
-        (word / 65536 % 256) as u8,
-        (word / 16_777_216 % 256) as u8,
-    ])
+    image.extend_from_slice(&word.to_le_bytes())
 }
 
 /// The word of a line, if it has one, or the first rule that it breaks.
