@@ -1,9 +1,9 @@
 -- What a run leaves of the board.
 use Rattle.std.proofs.Common.{◌≡◌, ℕ, ◌+◌, List, length, sym, ap, ◌∙◌, arith}
-use Rattle.vgic_table.specs.Interrupts.{tables_of}
 use Rattle.bao_config.specs.Fits.{ConfigFits}
 use Rattle.bao_wellformed.specs.WellFormed.{IsWellFormed}
 use Rattle.board.specs.Machine.{Machine}
+use Rattle.vgic_table.specs.Interrupts.{tables_of}
 use Rattle.vm_model.specs.Flat.{Flat, FlatEvent, flat_run, entered_count}
 use Rattle.vm_model.specs.Project.{project}
 use Rattle.hypervisor.specs.Hyp.{HypData, stands_for}

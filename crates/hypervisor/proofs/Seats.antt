@@ -7,11 +7,11 @@ use Rattle.std.proofs.lemmas.Bool.Decides.{nat_tests}
 use Rattle.std.proofs.lemmas.List.{length-map}
 use Rattle.std.proofs.lemmas.List.FromFn.{length-enumerate_from}
 use Rattle.std.proofs.lemmas.Option.{slice_get_within}
-use Rattle.vgic_table.specs.Interrupts.{tables_of}
 use Rattle.bao_types.specs.Shape.{ShapeData}
 use Rattle.bao_config.specs.Data.{ConfigData, VmData}
 use Rattle.bao_wellformed.specs.WellFormed.{IsWellFormed}
 use Rattle.board.specs.Machine.{Machine}
+use Rattle.vgic_table.specs.Interrupts.{tables_of}
 use Rattle.hypervisor.specs.Hyp.{HypData}
 use Rattle.hypervisor.specs.Shape.{core_place}
 use Rattle.hypervisor.specs.Tidy.{Tidy}

@@ -1,7 +1,6 @@
 -- A hypervisor and a board before an event and after it, and what an event leaves to the machine.
 use Rattle.std.specs.Prelude.{◌≡◌, ℕ, ◌<◌, Bool, true, false, IsTrue}
 use Rattle.std.specs.List.{list_any}
-use Rattle.vgic_table.specs.Interrupts.{tables_of}
 use Rattle.bao_types.specs.ListReg.{lists_at}
 use Rattle.bao_config.specs.Data.{ConfigData}
 use Rattle.board.specs.Attempt.{Outcome, Ran, Acknowledged, Ended, Leave}
@@ -9,6 +8,7 @@ use Rattle.board.specs.declared.board.Exit.TheVariants as exit
 use Rattle.board.specs.Machine.{Machine, port_given, step_exit, stepped}
 use Rattle.vgic_iface.specs.Interface.{best_listed, holds}
 use Rattle.vgic_iface.specs.Rank.{id_of, no_rank}
+use Rattle.vgic_table.specs.Interrupts.{tables_of}
 use Rattle.vm_model.specs.Flat.{Flat, flat_effect, flat_ready, runs}
 use Rattle.vm_model.specs.Interrupts.{best_of}
 use Rattle.vm_model.specs.Project.{joined_tables}

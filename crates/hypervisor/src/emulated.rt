@@ -1,11 +1,11 @@
 //! Accesses of guests to the emulated interrupt controller of their VM, and interrupts that they send.
 ghost use Rattle.std.specs.Prelude.{◌≡◌, ◌<◌, ◌*◌, ◌^◌, true, length, replicate, slice_get, slice_set, Some};
-ghost use Rattle.vgic_table.specs.Interrupts.{tables_of};
 ghost use Rattle.bao_types.specs.ListReg.{free_registers};
 ghost use Rattle.a64_state.specs.Registers.{with_x, x_of};
 ghost use Rattle.bao_config.specs.Config.{config_data};
 ghost use Rattle.bao_wellformed.specs.WellFormed.{IsWellFormed};
 ghost use Rattle.board.specs.Machine.{core_at, with_core};
+ghost use Rattle.vgic_table.specs.Interrupts.{tables_of};
 ghost use Rattle.vgic_emul.specs.Registers.{after, answer};
 ghost use Rattle.vm_model.specs.Duty.{cores_of, done, Emulate, Send};
 ghost use Rattle.vm_model.specs.Frames.{after_access, stored_value};

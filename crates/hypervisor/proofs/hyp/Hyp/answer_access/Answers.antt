@@ -1,8 +1,8 @@
 use Rattle.std.proofs.Common.{◌<◌, length, refl, ap, sym, subst, ◌∙◌}
 use Rattle.std.specs.Prelude.{slice_set}
 use Rattle.std.proofs.lemmas.Option.{slice_get_within}
-use Rattle.vgic_table.specs.Interrupts.{tables_of}
 use Rattle.bao_config.specs.Config.{config_data}
+use Rattle.vgic_table.specs.Interrupts.{tables_of}
 use Rattle.vgic_emul.specs.Registers.{after, answer}
 use Rattle.hypervisor.specs.Access.{access_of}
 use Rattle.hypervisor.specs.Hyp.{HypData}
