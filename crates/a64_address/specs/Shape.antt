@@ -9,11 +9,11 @@ use Rattle.a64_decode.specs.Operands.{extended}
 use Rattle.a64_decode.specs.Access.{scale_of, pair_size, literal_size, is_literal_prefetch, is_store, access_of}
 use Rattle.a64_decode.specs.declared.access.MemAccess.{MemAccess}
 use Rattle.a64_decode.specs.declared.instr.Instr.{Instr}
-use Rattle.a64_decode.specs.declared.instr.Instr.TheVariants.{LoadLiteral, Pair, LoadStoreUnsigned, LoadStoreIndexed, LoadStoreRegister}
+use Rattle.a64_decode.specs.declared.instr.Instr.TheVariants.{Address, AddSubImmediate, LogicalImmediate, MoveWide, Bitfield, Extract, Branch, BranchConditional, CompareBranch, TestBranch, BranchRegister, ExceptionReturn, Exception, Hint, Barrier, MsrImmediate, System, SystemRegister, LogicalShifted, AddSubShifted, AddSubExtended, AddSubCarry, ConditionalCompare, ConditionalSelect, ThreeSources, TwoSources, OneSource, LoadLiteral, Pair, LoadStoreUnsigned, LoadStoreIndexed, LoadStoreRegister, Undefined}
 use Rattle.a64_address.specs.declared.shape.MemShape.{MemShape}
 use Rattle.a64_address.specs.Address.{plus, shifted_left, address_of, back_of}
 
--- the table
+-- the table; the rows that have no access come last
 unfoldable pub memory_shape : CoreData → Instr → Option MemShape
 memory_shape core (LoadLiteral kind offset rt) =
     if is_literal_prefetch kind then None
@@ -79,7 +79,34 @@ memory_shape core (LoadStoreRegister size transfer rm extend scaled rn rt) =
       isv = true;
     }
     )
-memory_shape core _ = None
+memory_shape core (Address _ _ _) = None
+memory_shape core (AddSubImmediate _ _ _ _ _ _ _) = None
+memory_shape core (LogicalImmediate _ _ _ _ _ _ _) = None
+memory_shape core (MoveWide _ _ _ _ _) = None
+memory_shape core (Bitfield _ _ _ _ _ _) = None
+memory_shape core (Extract _ _ _ _ _) = None
+memory_shape core (Branch _ _) = None
+memory_shape core (BranchConditional _ _) = None
+memory_shape core (CompareBranch _ _ _ _) = None
+memory_shape core (TestBranch _ _ _ _) = None
+memory_shape core (BranchRegister _ _) = None
+memory_shape core ExceptionReturn = None
+memory_shape core (Exception _ _) = None
+memory_shape core (Hint _ _) = None
+memory_shape core (Barrier _ _) = None
+memory_shape core (MsrImmediate _ _) = None
+memory_shape core (System _ _ _ _ _) = None
+memory_shape core (SystemRegister _ _ _) = None
+memory_shape core (LogicalShifted _ _ _ _ _ _ _ _) = None
+memory_shape core (AddSubShifted _ _ _ _ _ _ _ _) = None
+memory_shape core (AddSubExtended _ _ _ _ _ _ _ _) = None
+memory_shape core (AddSubCarry _ _ _ _ _ _) = None
+memory_shape core (ConditionalCompare _ _ _ _ _ _) = None
+memory_shape core (ConditionalSelect _ _ _ _ _ _) = None
+memory_shape core (ThreeSources _ _ _ _ _ _) = None
+memory_shape core (TwoSources _ _ _ _ _) = None
+memory_shape core (OneSource _ _ _ _) = None
+memory_shape core Undefined = None
 
 -- the numbers of elements
 abbrev pub IsCount : ℕ → Type 0

@@ -60,7 +60,14 @@ pub fn shape_of(core: &Core, instr: &Instr) -> Option<MemShape>
             let offset = scaled_by(size, scaled, extended(extend, core.read_x(rm.0)));
             single(core, size, transfer, IndexMode::Offset, rn, offset)
         }
-        _ => None,
+        Instr::Address { .. } | Instr::AddSubImmediate { .. } | Instr::LogicalImmediate { .. }
+        | Instr::MoveWide { .. } | Instr::Bitfield { .. } | Instr::Extract { .. } | Instr::Branch { .. }
+        | Instr::BranchConditional { .. } | Instr::CompareBranch { .. } | Instr::TestBranch { .. }
+        | Instr::BranchRegister { .. } | Instr::ExceptionReturn | Instr::Exception { .. } | Instr::Hint { .. }
+        | Instr::Barrier { .. } | Instr::MsrImmediate { .. } | Instr::System { .. } | Instr::SystemRegister { .. }
+        | Instr::LogicalShifted { .. } | Instr::AddSubShifted { .. } | Instr::AddSubExtended { .. }
+        | Instr::AddSubCarry { .. } | Instr::ConditionalCompare { .. } | Instr::ConditionalSelect { .. }
+        | Instr::ThreeSources { .. } | Instr::TwoSources { .. } | Instr::OneSource { .. } | Instr::Undefined => None,
     }
 }
 

@@ -4,7 +4,7 @@ use Rattle.std.specs.Prelude.{ℕ, Option, Some, None, Bool, true, false, not, �
 use Rattle.a64_decode.specs.Lawful.{is_prefetch, is_signed_pair, writes_back}
 use Rattle.a64_decode.specs.declared.access.MemAccess.{MemAccess}
 use Rattle.a64_decode.specs.declared.instr.Instr.{Instr}
-use Rattle.a64_decode.specs.declared.instr.Instr.TheVariants.{LoadLiteral, Pair, LoadStoreUnsigned, LoadStoreIndexed, LoadStoreRegister}
+use Rattle.a64_decode.specs.declared.instr.Instr.TheVariants.{Address, AddSubImmediate, LogicalImmediate, MoveWide, Bitfield, Extract, Branch, BranchConditional, CompareBranch, TestBranch, BranchRegister, ExceptionReturn, Exception, Hint, Barrier, MsrImmediate, System, SystemRegister, LogicalShifted, AddSubShifted, AddSubExtended, AddSubCarry, ConditionalCompare, ConditionalSelect, ThreeSources, TwoSources, OneSource, LoadLiteral, Pair, LoadStoreUnsigned, LoadStoreIndexed, LoadStoreRegister, Undefined}
 use Rattle.a64_decode.specs.declared.operand.Reg.{Reg}
 use Rattle.a64_decode.specs.declared.operand.LiteralKind.{LiteralKind}
 use Rattle.a64_decode.specs.declared.operand.LiteralKind.TheVariants as literal
@@ -119,7 +119,7 @@ single_access size transfer rt described =
     }
     )
 
--- the table
+-- the table; the rows that have no access come last
 unfoldable pub access_of : Instr → Option MemAccess
 access_of (LoadLiteral kind offset rt) = literal_access kind rt
 access_of (Pair kind mode load offset rt2 rn rt) =
@@ -136,4 +136,31 @@ access_of (Pair kind mode load offset rt2 rn rt) =
 access_of (LoadStoreUnsigned size transfer imm12 rn rt) = single_access size transfer rt true
 access_of (LoadStoreIndexed size transfer offset mode rn rt) = single_access size transfer rt (not (writes_back mode))
 access_of (LoadStoreRegister size transfer rm extend scaled rn rt) = single_access size transfer rt true
-access_of _ = None
+access_of (Address _ _ _) = None
+access_of (AddSubImmediate _ _ _ _ _ _ _) = None
+access_of (LogicalImmediate _ _ _ _ _ _ _) = None
+access_of (MoveWide _ _ _ _ _) = None
+access_of (Bitfield _ _ _ _ _ _) = None
+access_of (Extract _ _ _ _ _) = None
+access_of (Branch _ _) = None
+access_of (BranchConditional _ _) = None
+access_of (CompareBranch _ _ _ _) = None
+access_of (TestBranch _ _ _ _) = None
+access_of (BranchRegister _ _) = None
+access_of ExceptionReturn = None
+access_of (Exception _ _) = None
+access_of (Hint _ _) = None
+access_of (Barrier _ _) = None
+access_of (MsrImmediate _ _) = None
+access_of (System _ _ _ _ _) = None
+access_of (SystemRegister _ _ _) = None
+access_of (LogicalShifted _ _ _ _ _ _ _ _) = None
+access_of (AddSubShifted _ _ _ _ _ _ _ _) = None
+access_of (AddSubExtended _ _ _ _ _ _ _ _) = None
+access_of (AddSubCarry _ _ _ _ _ _) = None
+access_of (ConditionalCompare _ _ _ _ _ _) = None
+access_of (ConditionalSelect _ _ _ _ _ _) = None
+access_of (ThreeSources _ _ _ _ _ _) = None
+access_of (TwoSources _ _ _ _ _) = None
+access_of (OneSource _ _ _ _) = None
+access_of Undefined = None

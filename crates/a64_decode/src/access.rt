@@ -77,6 +77,7 @@ impl LiteralKind {
 }
 
 /// The access of a load or a store; None where an instruction is neither. A prefetch is neither.
+#[rattlefmt::skip]
 #[tactic(auto, unfolding(crate::specs::Access::access_of))]
 pub fn access_of(instr: &Instr) -> Option<MemAccess>
     ensures { result ≡ access_in instr.now }
@@ -91,26 +92,18 @@ pub fn access_of(instr: &Instr) -> Option<MemAccess>
             rt,
             described: false,
         }),
-        Instr::LoadStoreUnsigned {
-            size,
-            transfer,
-            rt,
-            ..
-        }
-        | Instr::LoadStoreRegister {
-            size,
-            transfer,
-            rt,
-            ..
-        } => single(size, transfer, rt, true),
-        Instr::LoadStoreIndexed {
-            size,
-            transfer,
-            mode,
-            rt,
-            ..
-        } => single(size, transfer, rt, mode == IndexMode::Offset),
-        _ => None,
+        Instr::LoadStoreUnsigned { size, transfer, rt, .. } | Instr::LoadStoreRegister { size, transfer, rt, .. } =>
+            single(size, transfer, rt, true),
+        Instr::LoadStoreIndexed { size, transfer, mode, rt, .. } =>
+            single(size, transfer, rt, mode == IndexMode::Offset),
+        Instr::Address { .. } | Instr::AddSubImmediate { .. } | Instr::LogicalImmediate { .. }
+        | Instr::MoveWide { .. } | Instr::Bitfield { .. } | Instr::Extract { .. } | Instr::Branch { .. }
+        | Instr::BranchConditional { .. } | Instr::CompareBranch { .. } | Instr::TestBranch { .. }
+        | Instr::BranchRegister { .. } | Instr::ExceptionReturn | Instr::Exception { .. } | Instr::Hint { .. }
+        | Instr::Barrier { .. } | Instr::MsrImmediate { .. } | Instr::System { .. } | Instr::SystemRegister { .. }
+        | Instr::LogicalShifted { .. } | Instr::AddSubShifted { .. } | Instr::AddSubExtended { .. }
+        | Instr::AddSubCarry { .. } | Instr::ConditionalCompare { .. } | Instr::ConditionalSelect { .. }
+        | Instr::ThreeSources { .. } | Instr::TwoSources { .. } | Instr::OneSource { .. } | Instr::Undefined => None,
     }
 }
 
