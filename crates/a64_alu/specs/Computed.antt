@@ -5,7 +5,7 @@ use Rattle.a64_state.specs.Pstate.{carry_flag}
 use Rattle.a64_state.specs.Registers.{x_of, with_x, x_or_sp}
 use Rattle.a64_decode.specs.Lawful.{width_of}
 use Rattle.a64_decode.specs.declared.instr.Instr.{Instr}
-use Rattle.a64_decode.specs.declared.instr.Instr.TheVariants.{Address, AddSubImmediate, LogicalImmediate, MoveWide, Bitfield, Extract, LogicalShifted, AddSubShifted, AddSubExtended, AddSubCarry, ConditionalCompare, ConditionalSelect, ThreeSources, TwoSources, OneSource}
+use Rattle.a64_decode.specs.declared.instr.Instr.TheVariants.{Address, AddSubImmediate, LogicalImmediate, MoveWide, Bitfield, Extract, Branch, BranchConditional, CompareBranch, TestBranch, BranchRegister, ExceptionReturn, Exception, Hint, Barrier, MsrImmediate, System, SystemRegister, LogicalShifted, AddSubShifted, AddSubExtended, AddSubCarry, ConditionalCompare, ConditionalSelect, ThreeSources, TwoSources, OneSource, LoadLiteral, Pair, LoadStoreUnsigned, LoadStoreIndexed, LoadStoreRegister, Undefined}
 use Rattle.a64_alu.specs.Results.{low_x, with_nzcv}
 use Rattle.a64_alu.specs.Add.{total, flags_of, with_sum, with_sum_or_sp, number_of, extended_left}
 use Rattle.a64_alu.specs.Shifts.{shifted}
@@ -33,7 +33,24 @@ is_data_processing (ConditionalSelect _ _ _ _ _ _) = true
 is_data_processing (ThreeSources _ _ _ _ _ _) = true
 is_data_processing (TwoSources _ _ _ _ _) = true
 is_data_processing (OneSource _ _ _ _) = true
-is_data_processing _ = false
+is_data_processing (Branch _ _) = false
+is_data_processing (BranchConditional _ _) = false
+is_data_processing (CompareBranch _ _ _ _) = false
+is_data_processing (TestBranch _ _ _ _) = false
+is_data_processing (BranchRegister _ _) = false
+is_data_processing ExceptionReturn = false
+is_data_processing (Exception _ _) = false
+is_data_processing (Hint _ _) = false
+is_data_processing (Barrier _ _) = false
+is_data_processing (MsrImmediate _ _) = false
+is_data_processing (System _ _ _ _ _) = false
+is_data_processing (SystemRegister _ _ _) = false
+is_data_processing (LoadLiteral _ _ _) = false
+is_data_processing (Pair _ _ _ _ _ _ _) = false
+is_data_processing (LoadStoreUnsigned _ _ _ _ _) = false
+is_data_processing (LoadStoreIndexed _ _ _ _ _ _) = false
+is_data_processing (LoadStoreRegister _ _ _ _ _ _ _) = false
+is_data_processing Undefined = false
 
 -- a core after a data processing instruction, but for the step of PC
 unfoldable pub computed : Instr → CoreData → CoreData
@@ -81,4 +98,21 @@ computed (TwoSources wide kind rm rn rd) core =
 computed (OneSource wide kind rn rd) core =
     let width : ℕ = width_of wide in
     with_x core rd.0 (one_source width kind (low_x core width rn))
-computed _ core = core
+computed (Branch _ _) core = core
+computed (BranchConditional _ _) core = core
+computed (CompareBranch _ _ _ _) core = core
+computed (TestBranch _ _ _ _) core = core
+computed (BranchRegister _ _) core = core
+computed ExceptionReturn core = core
+computed (Exception _ _) core = core
+computed (Hint _ _) core = core
+computed (Barrier _ _) core = core
+computed (MsrImmediate _ _) core = core
+computed (System _ _ _ _ _) core = core
+computed (SystemRegister _ _ _) core = core
+computed (LoadLiteral _ _ _) core = core
+computed (Pair _ _ _ _ _ _ _) core = core
+computed (LoadStoreUnsigned _ _ _ _ _) core = core
+computed (LoadStoreIndexed _ _ _ _ _ _) core = core
+computed (LoadStoreRegister _ _ _ _ _ _ _) core = core
+computed Undefined core = core

@@ -18,27 +18,23 @@ use a64_state::Core;
 
 /// Whether an instruction is one of data processing: arithmetic, logic and moves of immediates and registers, with
 /// ADR and ADRP.
+#[rattlefmt::skip]
 pub fn is_alu(instr: &Instr) -> bool
     ensures { result ≡ is_data_processing instr.now }
 {
-    matches!(
-        instr,
-        Instr::Address { .. }
-            | Instr::AddSubImmediate { .. }
-            | Instr::LogicalImmediate { .. }
-            | Instr::MoveWide { .. }
-            | Instr::Bitfield { .. }
-            | Instr::Extract { .. }
-            | Instr::LogicalShifted { .. }
-            | Instr::AddSubShifted { .. }
-            | Instr::AddSubExtended { .. }
-            | Instr::AddSubCarry { .. }
-            | Instr::ConditionalCompare { .. }
-            | Instr::ConditionalSelect { .. }
-            | Instr::ThreeSources { .. }
-            | Instr::TwoSources { .. }
-            | Instr::OneSource { .. }
-    )
+    match instr {
+        Instr::Address { .. } | Instr::AddSubImmediate { .. } | Instr::LogicalImmediate { .. }
+        | Instr::MoveWide { .. } | Instr::Bitfield { .. } | Instr::Extract { .. } | Instr::LogicalShifted { .. }
+        | Instr::AddSubShifted { .. } | Instr::AddSubExtended { .. } | Instr::AddSubCarry { .. }
+        | Instr::ConditionalCompare { .. } | Instr::ConditionalSelect { .. } | Instr::ThreeSources { .. }
+        | Instr::TwoSources { .. } | Instr::OneSource { .. } => true,
+        Instr::Branch { .. } | Instr::BranchConditional { .. } | Instr::CompareBranch { .. }
+        | Instr::TestBranch { .. } | Instr::BranchRegister { .. } | Instr::ExceptionReturn | Instr::Exception { .. }
+        | Instr::Hint { .. } | Instr::Barrier { .. } | Instr::MsrImmediate { .. } | Instr::System { .. }
+        | Instr::SystemRegister { .. } | Instr::LoadLiteral { .. } | Instr::Pair { .. }
+        | Instr::LoadStoreUnsigned { .. } | Instr::LoadStoreIndexed { .. } | Instr::LoadStoreRegister { .. }
+        | Instr::Undefined => false,
+    }
 }
 
 /// Does a data processing instruction: its result goes to a register or a stack pointer, and where it sets them to
