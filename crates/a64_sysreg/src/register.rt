@@ -1,6 +1,7 @@
 //! The system registers by their numbers.
 
-ghost use Rattle.std.specs.Prelude.{◌≡◌};
+ghost use Rattle.std.specs.Prelude.{◌≡◌, IsTrue};
+ghost use Rattle.a64_sysreg.specs.Groups.{is_control, is_protection, is_interrupt, is_timer};
 ghost use Rattle.a64_sysreg.specs.Row.{numbered, is_identification as is_identification_number};
 ghost use Rattle.a64_sysreg.specs.Table.{row, register_of as register_in, NumbersAreDistinct};
 
@@ -158,53 +159,105 @@ pub fn numbers_are_distinct()
 
 impl Register {
     /// Whether this is its number, or one of its numbers.
+    #[rattlefmt::skip]
     #[tactic(auto, unfolding(crate::specs::Table::row))]
     pub fn has_number(self, id: SysId) -> bool
         ensures { result ≡ (row self).number id }
     {
         match self {
-            Register::Midr => id == number(3, 0, 0, 0, 0),
-            Register::Mpuir => id == number(3, 0, 0, 0, 4),
-            Register::Mpidr => id == number(3, 0, 0, 0, 5),
-            Register::Identification => is_identification(id),
-            Register::Sctlr => id == number(3, 0, 1, 0, 0),
-            Register::Cpacr => id == number(3, 0, 1, 0, 2),
-            Register::Spsr => id == number(3, 0, 4, 0, 0),
-            Register::Elr => id == number(3, 0, 4, 0, 1),
-            Register::SpEl0 => id == number(3, 0, 4, 1, 0),
-            Register::SpSel => id == number(3, 0, 4, 2, 0),
-            Register::CurrentEl => id == number(3, 0, 4, 2, 2),
-            Register::IccPmr => id == number(3, 0, 4, 6, 0),
-            Register::Esr => id == number(3, 0, 5, 2, 0),
-            Register::Far => id == number(3, 0, 6, 0, 0),
-            Register::Prselr => id == number(3, 0, 6, 2, 1),
-            Register::Prbar => id == number(3, 0, 6, 8, 0),
-            Register::Prlar => id == number(3, 0, 6, 8, 1),
-            Register::Mair => id == number(3, 0, 10, 2, 0),
-            Register::Vbar => id == number(3, 0, 12, 0, 0),
-            Register::IccRpr => id == number(3, 0, 12, 11, 3),
-            Register::IccSgi1r => id == number(3, 0, 12, 11, 5),
-            Register::IccIar1 => id == number(3, 0, 12, 12, 0),
-            Register::IccEoir1 => id == number(3, 0, 12, 12, 1),
-            Register::IccHppir1 => id == number(3, 0, 12, 12, 2),
-            Register::IccBpr1 => id == number(3, 0, 12, 12, 3),
-            Register::IccCtlr => id == number(3, 0, 12, 12, 4),
-            Register::IccSre => id == number(3, 0, 12, 12, 5),
-            Register::IccIgrpen1 => id == number(3, 0, 12, 12, 7),
-            Register::Contextidr => id == number(3, 0, 13, 0, 1),
-            Register::Tpidr => id == number(3, 0, 13, 0, 4),
-            Register::Cntkctl => id == number(3, 0, 14, 1, 0),
-            Register::Ctr => id == number(3, 3, 0, 0, 1),
-            Register::Nzcv => id == number(3, 3, 4, 2, 0),
-            Register::Daif => id == number(3, 3, 4, 2, 1),
-            Register::TpidrEl0 => id == number(3, 3, 13, 0, 2),
-            Register::TpidrroEl0 => id == number(3, 3, 13, 0, 3),
-            Register::Cntfrq => id == number(3, 3, 14, 0, 0),
-            Register::Cntvct => id == number(3, 3, 14, 0, 2),
-            Register::CntvTval => id == number(3, 3, 14, 3, 0),
-            Register::CntvCtl => id == number(3, 3, 14, 3, 1),
-            Register::CntvCval => id == number(3, 3, 14, 3, 2),
+            Register::Midr | Register::Mpuir | Register::Mpidr | Register::Identification | Register::Sctlr
+            | Register::Cpacr | Register::Spsr | Register::Elr | Register::SpEl0 | Register::SpSel
+            | Register::CurrentEl | Register::Esr | Register::Far | Register::Vbar | Register::Contextidr
+            | Register::Tpidr | Register::Ctr | Register::Nzcv | Register::Daif | Register::TpidrEl0
+            | Register::TpidrroEl0 => has_control_number(self, id),
+            Register::Prselr | Register::Prbar | Register::Prlar | Register::Mair => has_protection_number(self, id),
+            Register::IccPmr | Register::IccRpr | Register::IccSgi1r | Register::IccIar1 | Register::IccEoir1
+            | Register::IccHppir1 | Register::IccBpr1 | Register::IccCtlr | Register::IccSre | Register::IccIgrpen1 =>
+                has_interrupt_number(self, id),
+            Register::Cntkctl | Register::Cntfrq | Register::Cntvct | Register::CntvTval | Register::CntvCtl
+            | Register::CntvCval => has_timer_number(self, id),
         }
+    }
+}
+
+/// Whether this is the number of a register that identifies the core, or controls it and its exceptions.
+#[tactic(auto, unfolding(crate::specs::Table::row))]
+fn has_control_number(register: Register, id: SysId) -> bool
+    ensures { IsTrue (is_control register) → result ≡ (row register).number id }
+{
+    match register {
+        Register::Midr => id == number(3, 0, 0, 0, 0),
+        Register::Mpuir => id == number(3, 0, 0, 0, 4),
+        Register::Mpidr => id == number(3, 0, 0, 0, 5),
+        Register::Identification => is_identification(id),
+        Register::Sctlr => id == number(3, 0, 1, 0, 0),
+        Register::Cpacr => id == number(3, 0, 1, 0, 2),
+        Register::Spsr => id == number(3, 0, 4, 0, 0),
+        Register::Elr => id == number(3, 0, 4, 0, 1),
+        Register::SpEl0 => id == number(3, 0, 4, 1, 0),
+        Register::SpSel => id == number(3, 0, 4, 2, 0),
+        Register::CurrentEl => id == number(3, 0, 4, 2, 2),
+        Register::Esr => id == number(3, 0, 5, 2, 0),
+        Register::Far => id == number(3, 0, 6, 0, 0),
+        Register::Vbar => id == number(3, 0, 12, 0, 0),
+        Register::Contextidr => id == number(3, 0, 13, 0, 1),
+        Register::Tpidr => id == number(3, 0, 13, 0, 4),
+        Register::Ctr => id == number(3, 3, 0, 0, 1),
+        Register::Nzcv => id == number(3, 3, 4, 2, 0),
+        Register::Daif => id == number(3, 3, 4, 2, 1),
+        Register::TpidrEl0 => id == number(3, 3, 13, 0, 2),
+        Register::TpidrroEl0 => id == number(3, 3, 13, 0, 3),
+        _ => false,
+    }
+}
+
+/// Whether this is the number of a register of memory protection.
+#[tactic(auto, unfolding(crate::specs::Table::row))]
+fn has_protection_number(register: Register, id: SysId) -> bool
+    ensures { IsTrue (is_protection register) → result ≡ (row register).number id }
+{
+    match register {
+        Register::Prselr => id == number(3, 0, 6, 2, 1),
+        Register::Prbar => id == number(3, 0, 6, 8, 0),
+        Register::Prlar => id == number(3, 0, 6, 8, 1),
+        Register::Mair => id == number(3, 0, 10, 2, 0),
+        _ => false,
+    }
+}
+
+/// Whether this is the number of a register of the interrupt interface.
+#[tactic(auto, unfolding(crate::specs::Table::row))]
+fn has_interrupt_number(register: Register, id: SysId) -> bool
+    ensures { IsTrue (is_interrupt register) → result ≡ (row register).number id }
+{
+    match register {
+        Register::IccPmr => id == number(3, 0, 4, 6, 0),
+        Register::IccRpr => id == number(3, 0, 12, 11, 3),
+        Register::IccSgi1r => id == number(3, 0, 12, 11, 5),
+        Register::IccIar1 => id == number(3, 0, 12, 12, 0),
+        Register::IccEoir1 => id == number(3, 0, 12, 12, 1),
+        Register::IccHppir1 => id == number(3, 0, 12, 12, 2),
+        Register::IccBpr1 => id == number(3, 0, 12, 12, 3),
+        Register::IccCtlr => id == number(3, 0, 12, 12, 4),
+        Register::IccSre => id == number(3, 0, 12, 12, 5),
+        Register::IccIgrpen1 => id == number(3, 0, 12, 12, 7),
+        _ => false,
+    }
+}
+
+/// Whether this is the number of a register of the timer.
+#[tactic(auto, unfolding(crate::specs::Table::row))]
+fn has_timer_number(register: Register, id: SysId) -> bool
+    ensures { IsTrue (is_timer register) → result ≡ (row register).number id }
+{
+    match register {
+        Register::Cntkctl => id == number(3, 0, 14, 1, 0),
+        Register::Cntfrq => id == number(3, 3, 14, 0, 0),
+        Register::Cntvct => id == number(3, 3, 14, 0, 2),
+        Register::CntvTval => id == number(3, 3, 14, 3, 0),
+        Register::CntvCtl => id == number(3, 3, 14, 3, 1),
+        Register::CntvCval => id == number(3, 3, 14, 3, 2),
+        _ => false,
     }
 }
 

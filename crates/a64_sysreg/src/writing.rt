@@ -8,6 +8,7 @@ use a64_state::Core;
 use pmsa_regs::{write_base, write_limit, write_select};
 
 /// Writes a register, as far as it may be written.
+#[rattlefmt::skip]
 #[tactic(auto, unfolding(crate::specs::Table::row))]
 pub(crate) fn write(core: &mut Core, moment: Moment, register: Register, value: u64)
     ensures { core.new ≡ (row register).after core.old moment value }
@@ -41,19 +42,9 @@ pub(crate) fn write(core: &mut Core, moment: Moment, register: Register, value: 
         // These ignore a write.
         Register::IccBpr1 | Register::IccCtlr | Register::IccSre => {}
         // These aren't written: the first two answer otherwise, and all others are only read.
-        Register::IccSgi1r
-        | Register::IccEoir1
-        | Register::Midr
-        | Register::Mpuir
-        | Register::Mpidr
-        | Register::Identification
-        | Register::CurrentEl
-        | Register::IccRpr
-        | Register::IccIar1
-        | Register::IccHppir1
-        | Register::Ctr
-        | Register::Cntfrq
-        | Register::Cntvct => {}
+        Register::IccSgi1r | Register::IccEoir1 | Register::Midr | Register::Mpuir | Register::Mpidr
+        | Register::Identification | Register::CurrentEl | Register::IccRpr | Register::IccIar1
+        | Register::IccHppir1 | Register::Ctr | Register::Cntfrq | Register::Cntvct => {}
     }
 }
 
