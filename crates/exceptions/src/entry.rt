@@ -52,7 +52,12 @@ fn offset(core: &Core, cause: &Cause) -> u64
 
 /// The system registers once they tell what happened.
 fn saved(core: &Core, cause: &Cause) -> SysRegs
-    ensures { result ≡ record core.now.sys { spsr = core.now.pstate; elr = return_address core.now cause.now; esr = syndrome_after core.now cause.now; far = fault_address_after core.now cause.now } }
+    ensures { result ≡ record core.now.sys {
+      spsr = core.now.pstate;
+      elr = return_address core.now cause.now;
+      esr = syndrome_after core.now cause.now;
+      far = fault_address_after core.now cause.now;
+    } }
 {
     let mut sys = core.sys;
     sys.spsr = u64::from(core.pstate);
