@@ -3,8 +3,8 @@ ghost use Rattle.a64_sysreg.specs.Value.{compare_value as compare_value_of};
 ghost use Rattle.a64_sysreg.specs.Table.{row};
 
 use crate::{Moment, Register, SysWrite};
-use bao_types::ID_END;
 use a64_state::Core;
+use bao_types::ID_END;
 use pmsa_regs::{write_base, write_limit, write_select};
 
 /// Writes a register, as far as it may be written.

@@ -2,6 +2,7 @@ pub mod Bits
 pub mod Bitmask
 pub mod ByteRange
 pub mod Bytes
+pub mod Controller
 pub mod Region
 pub mod RegionFile
 pub mod RegionMatch
