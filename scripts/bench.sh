@@ -42,8 +42,13 @@ done
 room="$(mktemp -d)" || exit 2
 trap 'rm -rf "$room"' EXIT
 
+# What is newer than the program: it is made anew then, by a proof of all crates, which takes minutes.
+newer() {
+    find "$top/crates.txt" "$top"/crates/*/{src,specs,proofs} -newer "$program" -print -quit 2>/dev/null
+}
+
 # Without words the program tells its usage, so this shows that it was proved, made and run.
-if [[ -z ${PROGRAM:-} ]]; then
+if [[ -z ${PROGRAM:-} && (! -x $program || -n $(newer)) ]]; then
     (cd "$top/crates/bao" && rt run </dev/null 2>"$room/said") >"$room/out"
     grep -q '^usage: ' "$room/out" || give_up 2 "rt run made no proved program: $(tail -n 1 "$room/said")"
 fi
