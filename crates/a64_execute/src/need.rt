@@ -11,7 +11,7 @@ use a64_alu::low_x;
 use a64_decode::{ExceptionKind, Instr, Reg};
 use a64_state::Core;
 use a64_sysreg::{SysWrite, acknowledges, may_read, write_answer};
-use bao_types::{SysId, weight_behind};
+use bao_types::{SysId, weight_after};
 use exceptions::{Class, exception_syndrome, register_write_syndrome, syndrome};
 
 /// What an instruction asks before it can be completed.
@@ -168,7 +168,7 @@ fn stored_value(core: &Core, instr: &Instr, width: u32) -> u128
     ensures { result ≡ stored_value_of core.now instr.now (8 * width) }
 {
     match *instr {
-        Instr::Pair { rt2, rt, .. } => low(core, width, rt) + weight_behind(width) * low(core, width, rt2),
+        Instr::Pair { rt2, rt, .. } => low(core, width, rt) + weight_after(width) * low(core, width, rt2),
         Instr::LoadStoreUnsigned { rt, .. } | Instr::LoadStoreIndexed { rt, .. } | Instr::LoadStoreRegister { rt, .. } =>
             low(core, width, rt),
         Instr::Address { .. } | Instr::AddSubImmediate { .. } | Instr::LogicalImmediate { .. } | Instr::MoveWide { .. }

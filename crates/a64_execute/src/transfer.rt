@@ -8,7 +8,7 @@ ghost use Rattle.a64_execute.specs.Transfer.{first_element, second_element, with
 use a64_address::MemShape;
 use a64_decode::{Instr, LiteralKind, PairKind, Reg, Transfer, loaded};
 use a64_state::Core;
-use bao_types::weight_behind;
+use bao_types::weight_after;
 
 /// Writes what was loaded to its registers, and the base back, where the instruction does so.
 #[rattlefmt::skip]
@@ -58,7 +58,7 @@ fn first(got: u128, width: u32) -> u64
     ensures value { result ≡ first_element (8 * width) got }
     ensures bound { result < 2 ^ (8 * width) }
 {
-    (got % weight_behind(width)) as u64
+    (got % weight_after(width)) as u64
 }
 
 /// The element behind it.
@@ -68,7 +68,7 @@ fn second(got: u128, width: u32) -> u64
     ensures value { result ≡ second_element (8 * width) got }
     ensures bound { result < 2 ^ (8 * width) }
 {
-    (got / weight_behind(width) % weight_behind(width)) as u64
+    (got / weight_after(width) % weight_after(width)) as u64
 }
 
 /// Writes a loaded element to a register.

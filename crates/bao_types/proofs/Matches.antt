@@ -12,7 +12,7 @@ match_of-overlap [] after region hit = absurd (hit refl)
 match_of-overlap (first ∷ []) after region hit = refl
 match_of-overlap (first ∷ second ∷ rest) after region hit = refl
 
--- a region that matches, behind a match among those before it
+-- a region that matches, after a match among those before it
 pub region_match-overlap :
     (regions : List Region) (i : ℕ) (default : Region) (at : ℕ) →
     i < length regions → is_match (get_or regions i default) at ≡ true → region_match (take i regions) at ≢ Miss →

@@ -1,15 +1,19 @@
 -- The bits of the base and the limit register of a protection region (PMSAv8-64, with this project's layout).
-use Rattle.std.specs.Prelude.{◌≡◌, ◌==◌, ℕ, ◌+◌, ◌*◌, nat_le, Bool, ◌&&◌, List, filter, bit_and}
+use Rattle.std.specs.Prelude.{◌≡◌, ◌==◌, ℕ, ◌+◌, ◌-◌, ◌*◌, nat_le, Bool, ◌&&◌, List, filter, bit_and}
 use Rattle.bao_types.specs.declared.region.Region.{Region}
 use Rattle.bao_types.specs.Bits.{field}
 
+-- the bytes of a granule
+abbrev pub granule : ℕ
+granule = 64
+
 -- BASE times 64: the region's first byte
 abbrev pub first_byte : Region → ℕ
-first_byte region = field region.base 47 6 * 64
+first_byte region = field region.base 47 6 * granule
 
 -- LIMIT times 64 + 63: the region's last byte
 abbrev pub last_byte : Region → ℕ
-last_byte region = field region.limit 47 6 * 64 + 63
+last_byte region = field region.limit 47 6 * granule + (granule - 1)
 
 -- a region of zeros, which is off
 abbrev pub no_region : Region

@@ -16,12 +16,12 @@ pub use law::laws_of_ranges;
 pub use mask::bitmask;
 pub use memory::OutOfMemory;
 pub use range::{ADDRESS_SPACE_END, ByteRange};
-pub use region::{BASE_MASK, LIMIT_MASK, NO_REGION, Region, RegionFile};
+pub use region::{BASE_MASK, GRANULE, LIMIT_MASK, NO_REGION, Region, RegionFile};
 pub use region_match::RegionMatch;
 pub use shape::{CorePlace, EVENT_LIMIT, MEMORY_LIMIT, PORT_SIZE, PortSpot, Shape, is_port};
 pub use sum::Sum;
 pub use sys_id::SysId;
-pub use weight::weight_behind;
+pub use weight::weight_after;
 
 mod access;
 mod add;

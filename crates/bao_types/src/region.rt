@@ -2,6 +2,9 @@ ghost use Rattle.std.specs.Prelude.{◌≡◌};
 
 use std::marker::Model;
 
+/// The bytes of a granule: a protection region begins at a multiple of so many bytes and ends before one.
+pub const GRANULE: u64 = 64;
+
 /// The bits that a write of a base register keeps: BASE, SH, AP and XN.
 pub const BASE_MASK: u64 = 0x0000_ffff_ffff_fffe;
 
@@ -32,7 +35,7 @@ impl Region {
         ensures value { result ≡ first_byte self.now }
         ensures bound { result < address_space_end }
     {
-        self.base / 64 % (1 << 42) * 64
+        self.base / GRANULE % (1 << 42) * GRANULE
     }
 
     /// LIMIT times 64 + 63: the address of the region's last byte, below 2^48.
@@ -40,7 +43,7 @@ impl Region {
         ensures value { result ≡ last_byte self.now }
         ensures bound { result < address_space_end }
     {
-        self.limit / 64 % (1 << 42) * 64 + 63
+        self.limit / GRANULE % (1 << 42) * GRANULE + (GRANULE - 1)
     }
 
     /// Whether the byte at `at` lies between the region's base and the last byte of its limit granule.
@@ -48,8 +51,8 @@ impl Region {
     pub fn covers(&self, at: u64) -> bool
         ensures { result ≡ covers self.now at }
     {
-        let granule = at / 64;
-        self.base / 64 % (1 << 42) <= granule && granule <= self.limit / 64 % (1 << 42)
+        let granule = at / GRANULE;
+        self.base / GRANULE % (1 << 42) <= granule && granule <= self.limit / GRANULE % (1 << 42)
     }
 
     /// EN: whether the region counts at all.

@@ -1,10 +1,10 @@
 ghost use Rattle.std.specs.Prelude.{◌≡◌, ◌*◌, ◌^◌, ◌≤◌};
 ghost use Rattle.bao_types.specs.Bytes.{IsWidth};
 
-/// The weight, in a number whose least byte comes first, of what stands behind an element of `width` bytes: one more
+/// The weight, in a number whose least byte comes first, of what stands after an element of `width` bytes: one more
 /// than the largest number of so many bytes.
 #[inline]
-pub fn weight_behind(width: u32) -> u128
+pub fn weight_after(width: u32) -> u128
     requires { IsWidth width }
     ensures bits { result ≡ 2 ^ (8 * width) }
     ensures bytes { result ≡ 256 ^ width }

@@ -20,7 +20,7 @@ use crate::judge::{first_fault, passes_at_once};
 use crate::memory::{store, word_at};
 use a64_address::MemShape;
 use a64_state::Core;
-use bao_types::{Access, weight_behind};
+use bao_types::{Access, weight_after};
 use board::Fault;
 use phys_bank::Banks;
 use pmsa_table::Table;
@@ -123,7 +123,7 @@ pub(crate) fn read_elements<D: Devices>(memory: &Banks, devices: &mut D, shape: 
     }
     let behind = shape.at.wrapping_add(u64::from(shape.width));
     let second = read_element(memory, devices, behind, shape.width);
-    u128::from(second) * weight_behind(shape.width) + u128::from(first)
+    u128::from(second) * weight_after(shape.width) + u128::from(first)
 }
 
 /// Reads one element.
@@ -174,7 +174,7 @@ pub(crate) fn write_elements<D: Devices>(
             devices,
             behind,
             shape.width,
-            value / weight_behind(shape.width),
+            value / weight_after(shape.width),
         );
     }
 }

@@ -17,7 +17,7 @@ ghost use Rattle.sim_board.specs.Gap.{IsGap};
 use crate::gap::Gap;
 use crate::spots::{PortByte, port_at};
 use arrayvec::ArrayVec;
-use bao_types::{OutOfMemory, PortSpot, weight_behind};
+use bao_types::{OutOfMemory, PortSpot, weight_after};
 use gic_core::Lines;
 use ports::Port;
 use std::alloc::Global;
@@ -151,7 +151,7 @@ impl Devices for BoxedPorts {
     fn write(&mut self, at: u64, width: u32, value: u128) -> bool {
         match port_at(&self.spots, at) {
             Some(byte) => {
-                let part = (value % weight_behind(width)) as u64;
+                let part = (value % weight_after(width)) as u64;
                 let raised = write_one(
                     &mut self.ports[usize::from(byte.port)],
                     byte.offset,

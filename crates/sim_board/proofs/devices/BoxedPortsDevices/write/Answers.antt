@@ -20,8 +20,8 @@ returns-in-Some-clause-states g c =
     let low : c.in-Some.byte.port < length c.args.self.now.ports.items = omega (arith, c.args.self.now.count, c.in-Some.ensures.number) in
     let stands : Some (place_of c.in-Some.byte) ≡ port_places c.args.self.now.spots.items c.args.at = search rules in
     port_written _ items (port_places c.args.self.now.spots.items c.args.at) c.in-Some.byte c.args.width c.from.result c.args.value
-    (c.args.value % c.weight_behind.result) c.index_mut.result.now c.write_one-raised.new.port stands c.from.ensures low c.index_mut.ensures.value
-    (ap (λ p. c.args.value % p) c.weight_behind.ensures.bytes) c.write_one-raised.ensures.state
+    (c.args.value % c.weight_after.result) c.index_mut.result.now c.write_one-raised.new.port stands c.from.ensures low c.index_mut.ensures.value
+    (ap (λ p. c.args.value % p) c.weight_after.ensures.bytes) c.write_one-raised.ensures.state
 
 pub returns-in-Some-clause-room : goal.returns-in-Some-clause-room
 returns-in-Some-clause-room g c =
@@ -43,5 +43,5 @@ returns-in-Some-clause-lines g c =
     let stands : Some (place_of c.in-Some.byte) ≡ port_places c.args.self.now.spots.items c.args.at = search rules in
     c.raise_port_if.ensures
     ∙ line_written _ items (port_places c.args.self.now.spots.items c.args.at) c.in-Some.byte c.args.width c.from.result c.args.value
-    (c.args.value % c.weight_behind.result) c.index_mut.result.now c.write_one-raised.result c.args.self.now.lines stands c.from.ensures low c.index_mut.ensures.value
-    (ap (λ p. c.args.value % p) c.weight_behind.ensures.bytes) c.write_one-raised.ensures.line
+    (c.args.value % c.weight_after.result) c.index_mut.result.now c.write_one-raised.result c.args.self.now.lines stands c.from.ensures low c.index_mut.ensures.value
+    (ap (λ p. c.args.value % p) c.weight_after.ensures.bytes) c.write_one-raised.ensures.line
