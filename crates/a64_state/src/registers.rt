@@ -103,7 +103,7 @@ impl Core {
         requires { n ≤ 31 }
         ensures { result ≡ x_of self.now n }
     {
-        if n == 31 { 0 } else { self.x[n as usize] }
+        if n == 31 { 0 } else { self.x[usize::from(n)] }
     }
 
     /// Writes Xn; a write of register 31 is ignored.
@@ -112,7 +112,7 @@ impl Core {
         ensures { self.new ≡ with_x self.old n value }
     {
         if n != 31 {
-            self.x[n as usize] = value;
+            self.x[usize::from(n)] = value;
         }
     }
 
