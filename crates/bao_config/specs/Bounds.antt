@@ -1,7 +1,7 @@
 -- The bounds of the integers of a configuration, which `docs/configuration.md` lists too.
 use Rattle.std.specs.Prelude.{◌≡◌, ℕ, ℤ, pos, negsuc, ◌≤◌, ◌-◌, ◌%◌, ◌==◌, Bool, false, ◌&&◌, nat_le}
 use Rattle.bao_types.specs.ByteRange.{address_space_end}
-use Rattle.bao_types.specs.Controller.{frame_size}
+use Rattle.bao_types.specs.Controller.{frame_size, id_end}
 use Rattle.bao_types.specs.Shape.{port_size}
 use Rattle.bao_config.specs.declared.bounds.Bounds.{Bounds}
 
@@ -53,7 +53,7 @@ port_base = record { least = 0; most = address_space_end - port_size; multiple =
 
 -- an interrupt number that is shared by all cores
 abbrev pub interrupt : Bounds
-interrupt = record { least = 32; most = 95; multiple = 1 }
+interrupt = record { least = 32; most = id_end - 1; multiple = 1 }
 
 -- how many events a shared memory has
 abbrev pub events : Bounds

@@ -1,7 +1,7 @@
 //! The bounds of the integers of a configuration.
 ghost use Rattle.std.specs.Prelude.{◌≡◌, ◌<◌, pos};
 
-use bao_types::{ADDRESS_SPACE_END, FRAME_SIZE, PORT_SIZE};
+use bao_types::{ADDRESS_SPACE_END, FRAME_SIZE, ID_END, PORT_SIZE};
 
 /// Ranges of memory begin at a multiple of this many bytes, and their size is one.
 pub const GRANULE: u64 = 64;
@@ -83,7 +83,7 @@ pub const PORT_BASE: Bounds = Bounds {
 /// An interrupt number that is shared by all cores.
 pub const INTERRUPT: Bounds = Bounds {
     least: 32,
-    most: 95,
+    most: ID_END as u64 - 1,
     multiple: 1,
 };
 

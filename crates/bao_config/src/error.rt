@@ -170,7 +170,7 @@ fn push_number(path: &mut ArrayVec<u8, PATH_LIMIT>, number: u8)
     let _ = path.try_extend_from_slice(digits.format(number).as_bytes());
 }
 
-/// The text at this place, and the empty one behind the last.
+/// The text at this place, and the empty one after the last.
 fn text_at<'a>(texts: &[&'a str], i: usize) -> &'a str
     ensures { result.now ≡ unwrap_or (slice_get (map (λ s. s.now) texts.now) i) [] }
 {
