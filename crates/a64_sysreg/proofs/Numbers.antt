@@ -5,7 +5,7 @@ use Rattle.std.proofs.lemmas.Bool.Decides.{nat_tests}
 use Rattle.bao_types.specs.declared.sys_id.SysId.{SysId}
 use Rattle.a64_sysreg.specs.declared.register.Register.{Register}
 use Rattle.a64_sysreg.specs.declared.register.Register.TheVariants.{Identification}
-use Rattle.a64_sysreg.specs.Row.{numbered, is_identification}
+use Rattle.a64_sysreg.specs.Row.{sys_id, numbered, is_identification}
 use Rattle.a64_sysreg.specs.Table.{row, register_of}
 
 left-true : (a b : Bool) → a && b ≡ true → a ≡ true
@@ -19,26 +19,21 @@ right-true false b h = cc
 equal-numbers : (a b : ℕ) → (a == b) ≡ true → a ≡ b
 equal-numbers a b h = grind (arith, nat_tests)
 
--- the number of these parts
-abbrev pub made : ℕ → ℕ → ℕ → ℕ → ℕ → SysId
-made op0 op1 crn crm op2 = record { op0 = op0; op1 = op1; crn = crn; crm = crm; op2 = op2 }
-
--- a number that is this one has these parts
-pub parts-of_number :
-    (op0 op1 crn crm op2 : ℕ) (id : SysId) → numbered op0 op1 crn crm op2 id ≡ true → id ≡ made op0 op1 crn crm op2
-parts-of_number op0 op1 crn crm op2 id h =
-    let two : Bool = (id.op0 == op0) && (id.op1 == op1) in
-    let three : Bool = two && (id.crn == crn) in
-    let four : Bool = three && (id.crm == crm) in
-    let h4 = left-true four (id.op2 == op2) h in
-    let h3 = left-true three (id.crm == crm) h4 in
-    let h2 = left-true two (id.crn == crn) h3 in
-    let e0 = equal-numbers id.op0 op0 (left-true (id.op0 == op0) (id.op1 == op1) h2) in
-    let e1 = equal-numbers id.op1 op1 (right-true (id.op0 == op0) (id.op1 == op1) h2) in
-    let e2 = equal-numbers id.crn crn (right-true two (id.crn == crn) h3) in
-    let e3 = equal-numbers id.crm crm (right-true three (id.crm == crm) h4) in
-    let e4 = equal-numbers id.op2 op2 (right-true four (id.op2 == op2) h) in
-    let same : made id.op0 id.op1 id.crn id.crm id.op2 ≡ made op0 op1 crn crm op2 = cc in
+-- a number that passes as another is that one
+pub equal-ids : (number id : SysId) → numbered number id ≡ true → id ≡ number
+equal-ids number id h =
+    let two : Bool = (id.op0 == number.op0) && (id.op1 == number.op1) in
+    let three : Bool = two && (id.crn == number.crn) in
+    let four : Bool = three && (id.crm == number.crm) in
+    let h4 = left-true four (id.op2 == number.op2) h in
+    let h3 = left-true three (id.crm == number.crm) h4 in
+    let h2 = left-true two (id.crn == number.crn) h3 in
+    let e0 = equal-numbers id.op0 number.op0 (left-true (id.op0 == number.op0) (id.op1 == number.op1) h2) in
+    let e1 = equal-numbers id.op1 number.op1 (right-true (id.op0 == number.op0) (id.op1 == number.op1) h2) in
+    let e2 = equal-numbers id.crn number.crn (right-true two (id.crn == number.crn) h3) in
+    let e3 = equal-numbers id.crm number.crm (right-true three (id.crm == number.crm) h4) in
+    let e4 = equal-numbers id.op2 number.op2 (right-true four (id.op2 == number.op2) h) in
+    let same : sys_id id.op0 id.op1 id.crn id.crm id.op2 ≡ sys_id number.op0 number.op1 number.crn number.crm number.op2 = cc in
     same
 
 -- what a false test makes of two others
@@ -47,7 +42,8 @@ false-between true b c h = rw h refl
 false-between false b c h = refl
 
 -- an identification register's number isn't one with CRm 0
-not-first : (op0 op1 crn op2 : ℕ) (id : SysId) → is_identification id ≡ true → numbered op0 op1 crn 0 op2 id ≡ false
+not-first : (op0 op1 crn op2 : ℕ) (id : SysId) → is_identification id ≡ true
+    → numbered (sys_id op0 op1 crn 0 op2) id ≡ false
 not-first op0 op1 crn op2 id named =
     let three : Bool = (id.op0 == 3) && (id.op1 == 0) && (id.crn == 0) in
     let from : Bool = three && nat_le 1 id.crm in
@@ -60,4 +56,4 @@ unfolding row register_of
 found Identification id named =
     rw (not-first 3 0 0 0 id named)
     (rw (not-first 3 0 0 4 id named) (rw (not-first 3 0 0 5 id named) (rw named refl)))
-found register id named = subst (λ i. register_of i ≡ Some register) (sym (parts-of_number _ _ _ _ _ id named)) refl
+found register id named = subst (λ i. register_of i ≡ Some register) (sym (equal-ids _ id named)) refl

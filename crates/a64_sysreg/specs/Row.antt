@@ -25,10 +25,15 @@ pub record Row : Type 0 where
   -- what a write of a value answers
   pub answer : ℕ → SysWrite
 
--- the register's number: op0, op1, CRn, CRm and op2
-abbrev pub numbered : ℕ → ℕ → ℕ → ℕ → ℕ → SysId → Bool
-numbered op0 op1 crn crm op2 id =
-    (id.op0 == op0) && (id.op1 == op1) && (id.crn == crn) && (id.crm == crm) && (id.op2 == op2)
+-- a register's number: op0, op1, CRn, CRm and op2
+abbrev pub sys_id : ℕ → ℕ → ℕ → ℕ → ℕ → SysId
+sys_id op0 op1 crn crm op2 = record { op0 = op0; op1 = op1; crn = crn; crm = crm; op2 = op2 }
+
+-- the one number of a register
+abbrev pub numbered : SysId → SysId → Bool
+numbered number id =
+    (id.op0 == number.op0) && (id.op1 == number.op1) && (id.crn == number.crn) && (id.crm == number.crm)
+    && (id.op2 == number.op2)
 
 -- the numbers of the identification registers: CRm 1 to 7, and any op2
 abbrev pub is_identification : SysId → Bool

@@ -2,7 +2,7 @@
 
 ghost use Rattle.std.specs.Prelude.{◌≡◌, IsTrue};
 ghost use Rattle.a64_sysreg.specs.Groups.{is_control, is_protection, is_interrupt, is_timer};
-ghost use Rattle.a64_sysreg.specs.Row.{numbered, is_identification as is_identification_number};
+ghost use Rattle.a64_sysreg.specs.Row.{is_identification as is_identification_number, sys_id};
 ghost use Rattle.a64_sysreg.specs.Table.{row, register_of as register_in, NumbersAreDistinct};
 
 use bao_types::SysId;
@@ -263,7 +263,7 @@ fn has_timer_number(register: Register, id: SysId) -> bool
 
 /// The number of a register by its five parts.
 fn number(op0: u8, op1: u8, crn: u8, crm: u8, op2: u8) -> SysId
-    ensures { result ≡ record { op0 = op0; op1 = op1; crn = crn; crm = crm; op2 = op2 } }
+    ensures { result ≡ sys_id op0 op1 crn crm op2 }
 {
     SysId {
         op0,

@@ -260,9 +260,9 @@ fn check_written(rt: &impl Abort, shows: &str, number: [u8; 5], value: u64, back
 static TIMER_VALUES: [(&str, u64, u64, u64); 5] = [
     ("ahead",                     100,                   50,                    150),
     ("the greatest",              0x7FFF_FFFF,           50,                    0x8000_0031),
-    ("the least, behind",         0x8000_0000,           0x1_0000_0000,         0x8000_0000),
+    ("the least, after",          0x8000_0000,           0x1_0000_0000,         0x8000_0000),
     ("before the first count",    0xFFFF_FFFF,           0,                     0xFFFF_FFFF_FFFF_FFFF),
-    ("behind the last count",     2,                     0xFFFF_FFFF_FFFF_FFFF, 1),
+    ("after the last count",      2,                     0xFFFF_FFFF_FFFF_FFFF, 1),
 ];
 
 #[test]
