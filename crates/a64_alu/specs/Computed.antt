@@ -10,7 +10,7 @@ use Rattle.a64_alu.specs.Results.{low_x, with_nzcv}
 use Rattle.a64_alu.specs.Add.{total, flags_of, with_sum, with_sum_or_sp, number_of, extended_left}
 use Rattle.a64_alu.specs.Shifts.{shifted}
 use Rattle.a64_alu.specs.Logical.{combined, with_logical, with_logical_or_sp, mask_of, inverted_if}
-use Rattle.a64_alu.specs.Moves.{address_of, moved, field_moved, extracted}
+use Rattle.a64_alu.specs.Moves.{address_of, moved, field_of, placed, extracted}
 use Rattle.a64_alu.specs.Conditions.{holds, operand_of, changed}
 use Rattle.a64_alu.specs.Products.{product_of}
 use Rattle.a64_alu.specs.Quotients.{two_sources}
@@ -65,7 +65,7 @@ computed (MoveWide wide kind hw imm16 rd) core =
     with_x core rd.0 (moved width kind (low_x core width rd) (16 * hw) imm16)
 computed (Bitfield wide kind immr imms rn rd) core =
     let width : ℕ = width_of wide in
-    with_x core rd.0 (field_moved width kind immr imms (low_x core width rd) (low_x core width rn))
+    with_x core rd.0 (placed width kind (low_x core width rd) (field_of width immr imms (low_x core width rn)))
 computed (Extract wide rm imms rn rd) core =
     let width : ℕ = width_of wide in
     with_x core rd.0 (extracted width (low_x core width rn) (low_x core width rm) imms)

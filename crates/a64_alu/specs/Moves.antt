@@ -7,6 +7,7 @@ use Rattle.a64_decode.specs.declared.operand.MoveKind.{MoveKind}
 use Rattle.a64_decode.specs.declared.operand.MoveKind.TheVariants.{Movn, Movz, Movk}
 use Rattle.a64_decode.specs.declared.operand.BitfieldKind.{BitfieldKind}
 use Rattle.a64_decode.specs.declared.operand.BitfieldKind.TheVariants.{Sbfm, Bfm, Ubfm}
+use Rattle.a64_alu.specs.declared.moves.Field.{Field}
 use Rattle.a64_alu.specs.Numbers.{inverted}
 
 -- PC plus bytes, or the start of PC's page of 4096 bytes plus pages
@@ -27,18 +28,17 @@ field_low immr imms = if nat_le immr imms then immr else 0
 abbrev pub field_place : ℕ → ℕ → ℕ → ℕ
 field_place width immr imms = if nat_le immr imms then 0 else width - immr
 
--- so many bits at a place: with copies of the highest above them and zeros below, in the old value, or with zeros
--- around them
-unfoldable pub placed : ℕ → BitfieldKind → ℕ → ℕ → ℕ → ℕ → ℕ
-placed width Sbfm old place count part = sign_extend count part * 2 ^ place % 2 ^ width
-placed width Bfm old place count part = with_bits old place count part
-placed width Ubfm old place count part = part * 2 ^ place
-
--- bits `imms` down to the field's lowest go to its place
-unfoldable pub field_moved : ℕ → BitfieldKind → ℕ → ℕ → ℕ → ℕ → ℕ
-field_moved width kind immr imms old value =
+-- bits `imms` down to the field's lowest, which go to its place
+unfoldable pub field_of : ℕ → ℕ → ℕ → ℕ → Field
+field_of width immr imms value =
     let low : ℕ = field_low immr imms in
-    placed width kind old (field_place width immr imms) (imms + 1 - low) (field value imms low)
+    record { place = field_place width immr imms; count = imms + 1 - low; part = field value imms low }
+
+-- a field at its place: with copies of its highest bit above it and zeros below, in the old value, or with zeros around it
+unfoldable pub placed : ℕ → BitfieldKind → ℕ → Field → ℕ
+placed width Sbfm old moving = sign_extend moving.count moving.part * 2 ^ moving.place % 2 ^ width
+placed width Bfm old moving = with_bits old moving.place moving.count moving.part
+placed width Ubfm old moving = moving.part * 2 ^ moving.place
 
 -- the lowest bits of two numbers, one above the other, shifted right
 unfoldable pub extracted : ℕ → ℕ → ℕ → ℕ → ℕ

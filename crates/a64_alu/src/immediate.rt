@@ -10,7 +10,7 @@ ghost use Rattle.a64_alu.specs.Computed.{computed};
 
 use crate::add::{Form, number, total, write_sum_or_sp};
 use crate::logical::{combined, mask as bits, write_logical_or_sp};
-use crate::moves::{address, extracted, field_moved, moved};
+use crate::moves::{address, extracted, field_of, moved, placed};
 use crate::result::{low_x, write_x};
 use a64_decode::{BitfieldKind, LogicalKind, MoveKind, Reg, width};
 use a64_state::Core;
@@ -105,8 +105,8 @@ pub(crate) fn bitfield(
     let width = width(wide);
     let old = low_x(core, width, rd);
     let value = low_x(core, width, rn);
-    let result = field_moved(width, kind, u32::from(immr), u32::from(imms), old, value);
-    write_x(core, rd, result);
+    let field = field_of(width, u32::from(immr), u32::from(imms), value);
+    write_x(core, rd, placed(width, kind, old, field));
 }
 
 /// EXTR.

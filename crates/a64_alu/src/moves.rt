@@ -1,8 +1,8 @@
 //! Addresses, wide moves, and the moves of fields.
-#![tactic(auto, unfolding(crate::specs::Moves::address_of, crate::specs::Moves::moved, crate::specs::Moves::placed, crate::specs::Moves::field_moved, crate::specs::Moves::extracted))]
+#![tactic(auto, unfolding(crate::specs::Moves::address_of, crate::specs::Moves::moved, crate::specs::Moves::placed, crate::specs::Moves::field_of, crate::specs::Moves::extracted))]
 
 ghost use Rattle.std.specs.Prelude.{◌≡◌, ◌≤◌, ◌<◌, ◌+◌, ◌^◌};
-ghost use Rattle.a64_alu.specs.Moves.{address_of, moved as moved_by, placed as placed_by, field_moved as field_moved_by, extracted as extracted_from};
+ghost use Rattle.a64_alu.specs.Moves.{address_of, moved as moved_by, placed as placed_by, field_of as field_in, extracted as extracted_from};
 
 use crate::number::{at, inverted, with_bits};
 use a64_decode::{BitfieldKind, MoveKind, low, sign_extend};
@@ -32,48 +32,52 @@ pub(crate) fn moved(width: u32, kind: MoveKind, old: u64, place: u32, imm16: u16
     }
 }
 
-/// So many bits at a place: with copies of the highest above them and zeros below, in the old value, or with zeros
-/// around them.
-fn placed(width: u32, kind: BitfieldKind, old: u64, place: u32, count: u32, part: u64) -> u64
-    requires width { width ≤ 64 }
-    requires some { 0 < count }
-    requires room { place + count ≤ width }
-    requires part { part < 2 ^ count }
-    ensures { result ≡ placed_by width kind old place count part }
-{
-    match kind {
-        BitfieldKind::Sbfm => low(sign_extend(count, part) << place, width),
-        BitfieldKind::Bfm => with_bits(old, place, count, part),
-        BitfieldKind::Ubfm => at(part, place, count),
-    }
+/// A field that is moved: its bits, how many there are, and the place where the lowest of them goes.
+#[derive(Clone, Copy)]
+pub struct Field {
+    pub place: u32,
+    pub count: u32,
+    pub part: u64,
 }
 
-/// Bits `imms` down to `immr`, or to 0 where that is above, go to the bottom, or to `width` minus `immr`.
-pub(crate) fn field_moved(
-    width: u32,
-    kind: BitfieldKind,
-    immr: u32,
-    imms: u32,
-    old: u64,
-    value: u64,
-) -> u64
+/// Bits `imms` down to `immr`, or to 0 where that is above, which go to the bottom, or to `width` minus `immr`.
+pub(crate) fn field_of(width: u32, immr: u32, imms: u32, value: u64) -> Field
     requires width { width ≤ 64 }
     requires rotation { immr < width }
     requires last { imms < width }
-    ensures { result ≡ field_moved_by width kind immr imms old value }
+    ensures field { result ≡ field_in width immr imms value }
+    ensures some { 0 < result.count }
+    ensures room { result.place + result.count ≤ width }
+    ensures part { result.part < 2 ^ result.count }
 {
     if immr <= imms {
         let count = imms + 1 - immr;
-        placed(width, kind, old, 0, count, low(value >> immr, count))
+        Field {
+            place: 0,
+            count,
+            part: low(value >> immr, count),
+        }
     } else {
-        placed(
-            width,
-            kind,
-            old,
-            width - immr,
-            imms + 1,
-            low(value, imms + 1),
-        )
+        Field {
+            place: width - immr,
+            count: imms + 1,
+            part: low(value, imms + 1),
+        }
+    }
+}
+
+/// A field at its place: with copies of its highest bit above it and zeros below, in the old value, or with zeros around it.
+pub(crate) fn placed(width: u32, kind: BitfieldKind, old: u64, field: Field) -> u64
+    requires width { width ≤ 64 }
+    requires some { 0 < field.count }
+    requires room { field.place + field.count ≤ width }
+    requires part { field.part < 2 ^ field.count }
+    ensures { result ≡ placed_by width kind old field }
+{
+    match kind {
+        BitfieldKind::Sbfm => low(sign_extend(field.count, field.part) << field.place, width),
+        BitfieldKind::Bfm => with_bits(old, field.place, field.count, field.part),
+        BitfieldKind::Ubfm => at(field.part, field.place, field.count),
     }
 }
 
