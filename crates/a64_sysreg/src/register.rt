@@ -1,7 +1,7 @@
 //! The system registers by their numbers.
 
-ghost use Rattle.std.specs.Prelude.{◌≡◌, IsTrue};
-ghost use Rattle.a64_sysreg.specs.Groups.{is_control, is_protection, is_interrupt, is_timer};
+ghost use Rattle.std.specs.Prelude.{◌≡◌};
+ghost use Rattle.a64_sysreg.specs.Groups.{group_of, Control, Protection, Interrupts, Timer};
 ghost use Rattle.a64_sysreg.specs.Row.{is_identification as is_identification_number, sys_id};
 ghost use Rattle.a64_sysreg.specs.Table.{row, register_of as register_in, NumbersAreDistinct};
 
@@ -160,7 +160,7 @@ pub fn numbers_are_distinct()
 impl Register {
     /// Whether this is its number, or one of its numbers.
     #[rattlefmt::skip]
-    #[tactic(auto, unfolding(crate::specs::Table::row))]
+    #[tactic(auto, unfolding(crate::specs::Table::row, crate::specs::Groups::group_of))]
     pub fn has_number(self, id: SysId) -> bool
         ensures { result ≡ (row self).number id }
     {
@@ -181,9 +181,9 @@ impl Register {
 }
 
 /// Whether this is the number of a register that identifies the core, or controls it and its exceptions.
-#[tactic(auto, unfolding(crate::specs::Table::row))]
+#[tactic(auto, unfolding(crate::specs::Table::row, crate::specs::Groups::group_of))]
 fn has_control_number(register: Register, id: SysId) -> bool
-    ensures { IsTrue (is_control register) → result ≡ (row register).number id }
+    ensures { group_of register ≡ Control → result ≡ (row register).number id }
 {
     match register {
         Register::Midr => id == number(3, 0, 0, 0, 0),
@@ -212,9 +212,9 @@ fn has_control_number(register: Register, id: SysId) -> bool
 }
 
 /// Whether this is the number of a register of memory protection.
-#[tactic(auto, unfolding(crate::specs::Table::row))]
+#[tactic(auto, unfolding(crate::specs::Table::row, crate::specs::Groups::group_of))]
 fn has_protection_number(register: Register, id: SysId) -> bool
-    ensures { IsTrue (is_protection register) → result ≡ (row register).number id }
+    ensures { group_of register ≡ Protection → result ≡ (row register).number id }
 {
     match register {
         Register::Prselr => id == number(3, 0, 6, 2, 1),
@@ -226,9 +226,9 @@ fn has_protection_number(register: Register, id: SysId) -> bool
 }
 
 /// Whether this is the number of a register of the interrupt interface.
-#[tactic(auto, unfolding(crate::specs::Table::row))]
+#[tactic(auto, unfolding(crate::specs::Table::row, crate::specs::Groups::group_of))]
 fn has_interrupt_number(register: Register, id: SysId) -> bool
-    ensures { IsTrue (is_interrupt register) → result ≡ (row register).number id }
+    ensures { group_of register ≡ Interrupts → result ≡ (row register).number id }
 {
     match register {
         Register::IccPmr => id == number(3, 0, 4, 6, 0),
@@ -246,9 +246,9 @@ fn has_interrupt_number(register: Register, id: SysId) -> bool
 }
 
 /// Whether this is the number of a register of the timer.
-#[tactic(auto, unfolding(crate::specs::Table::row))]
+#[tactic(auto, unfolding(crate::specs::Table::row, crate::specs::Groups::group_of))]
 fn has_timer_number(register: Register, id: SysId) -> bool
-    ensures { IsTrue (is_timer register) → result ≡ (row register).number id }
+    ensures { group_of register ≡ Timer → result ≡ (row register).number id }
 {
     match register {
         Register::Cntkctl => id == number(3, 0, 14, 1, 0),
