@@ -2,7 +2,7 @@
 
 ghost use Rattle.std.specs.Prelude.{◌≡◌, ◌<◌, ◌^◌, ◌+◌};
 ghost use Rattle.a64_decode.specs.Lawful.{IsReg, IsSysId};
-ghost use Rattle.exceptions.specs.Syndrome.{class_number, class_of, syndrome_of, register_write, bit as bit_at, description_of, access_part as access_part_of, is_data_abort, IsAbort, abort_syndrome_of};
+ghost use Rattle.exceptions.specs.Syndrome.{class_number, class_of, syndrome_of, register_write, bit as bit_at, description_of, access_part as access_part_of, IsAbort, abort_syndrome_of};
 
 use crate::Class;
 use a64_decode::{ExceptionKind, Instr, MemAccess, Reg, access_of};
