@@ -13,7 +13,7 @@ use a64_decode::{
 };
 use a64_state::Core;
 
-/// What a load or a store asks of memory: `count` elements of `width` bytes, one behind the other from `at` on.
+/// What a load or a store asks of memory: `count` elements of `width` bytes, one after the other from `at` on.
 /// Addresses wrap at 2^64.
 #[derive(Clone, Copy, Debug, PartialEq, Eq)]
 pub struct MemShape {

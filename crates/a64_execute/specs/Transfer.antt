@@ -25,12 +25,9 @@ with_element transfer bits rt element core =
     if is_store transfer then core
     else with_x core rt.0 (loaded (is_signed_load transfer) (is_long_load transfer) bits element)
 
--- after a load of two elements
-abbrev pub with_pair : PairKind → ℕ → Reg → Reg → ℕ → CoreData → CoreData
-with_pair kind bits rt rt2 got core =
-    let low : CoreData =
-    with_x core rt.0 (loaded (is_signed_pair kind) (is_wide_pair kind) bits (first_element bits got)) in
-    with_x low rt2.0 (loaded (is_signed_pair kind) (is_wide_pair kind) bits (second_element bits got))
+-- after a load of one element of a pair to its register
+abbrev pub with_half : PairKind → ℕ → Reg → ℕ → CoreData → CoreData
+with_half kind bits rt element core = with_x core rt.0 (loaded (is_signed_pair kind) (is_wide_pair kind) bits element)
 
 -- the base after it was written back, where it is
 abbrev pub with_back : Option ℕ → Reg → CoreData → CoreData
@@ -44,7 +41,10 @@ transferred (LoadLiteral kind offset rt) shape got core =
     let bits : ℕ = 8 * shape.width in
     with_x core rt.0 (loaded (is_signed_literal kind) (is_wide_literal kind) bits (first_element bits got))
 transferred (Pair kind mode load offset rt2 rn rt) shape got core =
-    with_back shape.back rn (if load then with_pair kind (8 * shape.width) rt rt2 got core else core)
+    let bits : ℕ = 8 * shape.width in
+    let first : CoreData = with_half kind bits rt (first_element bits got) core in
+    let both : CoreData = with_half kind bits rt2 (second_element bits got) first in
+    with_back shape.back rn (if load then both else core)
 transferred (LoadStoreUnsigned size transfer imm12 rn rt) shape got core =
     let bits : ℕ = 8 * shape.width in
     with_element transfer bits rt (first_element bits got) core

@@ -36,7 +36,7 @@ at_el1 core asks = if level core == 1 then asks else undefined_at core
 abbrev pub call_syndrome : ExceptionKind → ℕ → ℕ
 call_syndrome kind imm16 = syndrome_of (class_number (class_of kind)) imm16
 
--- EL1 takes SVC, which returns behind itself, and BRK, which returns to itself. EL2 takes HVC, which leaves PC behind
+-- EL1 takes SVC, which returns after itself, and BRK, which returns to itself. EL2 takes HVC, which leaves PC after
 -- itself, and SMC, which leaves it at itself.
 abbrev pub exception_need : CoreData → ExceptionKind → ℕ → Need
 exception_need core Svc imm16 = need.Raise (call_syndrome Svc imm16) (next_pc core)
@@ -101,7 +101,7 @@ asked core Undefined = undefined_at core
 abbrev pub bytes_of : MemShape → ℕ
 bytes_of shape = shape.width * shape.count
 
--- What is stored, whose elements have so many bits: the lowest bits of Rt, and of a pair's Rt2 behind them in memory.
+-- What is stored, whose elements have so many bits: the lowest bits of Rt, and of a pair's Rt2 after them in memory.
 -- The value is the bytes in address order as one little-endian number. No other row stores, so theirs means nothing.
 abbrev pub stored_value : CoreData → Instr → ℕ → ℕ
 stored_value core (Pair kind mode load offset rt2 rn rt) bits = low_x core bits rt + 2 ^ bits * low_x core bits rt2

@@ -1,4 +1,4 @@
-ghost use Rattle.std.specs.Prelude.{◌≡◌, ◌+◌, ◌*◌, ◌<◌, ◌^◌, ◌↔◌, if◌then◌else◌};
+ghost use Rattle.std.specs.Prelude.{◌≡◌, ◌+◌, ◌*◌, ◌<◌, ◌^◌};
 ghost use Rattle.bao_types.specs.Bytes.{IsWidth};
 ghost use Rattle.a64_decode.specs.Lawful.{IsLawful, IsReg, IsSysId};
 ghost use Rattle.a64_state.specs.Registers.{x_of};
@@ -29,7 +29,7 @@ pub enum Need {
     Store { shape: MemShape, value: u128 },
     /// That EL1 takes an exception of this syndrome, which returns to the address `back`.
     Raise { esr: u64, back: u64 },
-    /// That EL2 takes an exception of this syndrome. PC goes behind the instruction where `behind` says so, else it stays.
+    /// That EL2 takes an exception of this syndrome. PC goes to the one after the instruction where `behind` says so, else it stays.
     Leave { esr: u64, behind: bool },
 }
 

@@ -3,7 +3,7 @@
 ghost use Rattle.std.specs.Prelude.{◌≡◌, ◌*◌, ◌^◌, ◌<◌, ◌-◌, Some};
 ghost use Rattle.bao_types.specs.Bytes.{IsWidth};
 ghost use Rattle.a64_decode.specs.Lawful.{IsLawful, IsReg};
-ghost use Rattle.a64_execute.specs.Transfer.{first_element, second_element, with_element, with_pair, with_back, transferred};
+ghost use Rattle.a64_execute.specs.Transfer.{first_element, second_element, with_element, with_half, with_back, transferred};
 
 use a64_address::MemShape;
 use a64_decode::{Instr, LiteralKind, PairKind, Reg, Transfer, loaded};
@@ -28,7 +28,8 @@ pub(crate) fn transfer(core: &mut Core, instr: &Instr, shape: &MemShape, got: u1
         }
         Instr::Pair { kind, load, rt2, rn, rt, .. } => {
             if load {
-                load_pair(core, kind, shape.width, rt, rt2, got);
+                load_half(core, kind, shape.width, rt, first(got, shape.width));
+                load_half(core, kind, shape.width, rt2, second(got, shape.width));
             }
             write_back(core, rn, shape.back);
         }
@@ -61,7 +62,7 @@ fn first(got: u128, width: u32) -> u64
     (got % weight_after(width)) as u64
 }
 
-/// The element behind it.
+/// The element after it.
 #[inline(always)]
 fn second(got: u128, width: u32) -> u64
     requires { IsWidth width }
@@ -87,18 +88,17 @@ fn load(core: &mut Core, transfer: Transfer, width: u32, rt: Reg, element: u64)
     }
 }
 
-/// Writes the loaded elements of a pair to its registers.
+/// Writes a loaded element of a pair to its register.
 #[inline(always)]
-fn load_pair(core: &mut Core, kind: PairKind, width: u32, rt: Reg, rt2: Reg, got: u128)
-    requires first { IsReg rt }
-    requires second { IsReg rt2 }
+fn load_half(core: &mut Core, kind: PairKind, width: u32, rt: Reg, element: u64)
+    requires reg { IsReg rt }
     requires width { IsWidth width }
-    ensures { core.new ≡ with_pair kind (8 * width) rt rt2 got core.old }
+    requires value { element < 2 ^ (8 * width) }
+    ensures { core.new ≡ with_half kind (8 * width) rt element core.old }
 {
     let signed = kind == PairKind::SignedWord;
     let wide = kind != PairKind::Word;
-    core.write_x(rt.0, loaded(signed, wide, 8 * width, first(got, width)));
-    core.write_x(rt2.0, loaded(signed, wide, 8 * width, second(got, width)));
+    core.write_x(rt.0, loaded(signed, wide, 8 * width, element));
 }
 
 /// Writes the base back, where it is written back. Register 31 is SP.
