@@ -42,11 +42,15 @@ port_count = 16
 abbrev pub console_count : ℕ
 console_count = 8
 
+-- the ports from there on, below this number, are scratch ports, and the others tickers
+abbrev pub ticker_base : ℕ
+ticker_base = 12
+
 -- The standard list: ports 0 to 7 are consoles, 8 to 11 scratch ports and 12 to 15 tickers. There are no others; where one is
 -- asked for, it is as a console that nothing reaches.
 abbrev pub standard_kind : ℕ → PortKind
 standard_kind port =
-    if nat_lt port console_count then Console else if nat_lt port 12 then Scratch else if nat_lt port port_count then Ticker else Console
+    if nat_lt port console_count then Console else if nat_lt port ticker_base then Scratch else if nat_lt port port_count then Ticker else Console
 
 -- newly made
 abbrev pub standard_ports : PortStates

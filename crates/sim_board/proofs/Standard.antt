@@ -10,10 +10,11 @@ use Rattle.bao_types.specs.declared.shape.PortSpot.{PortSpot}
 use Rattle.ports.specs.PortState.{PortState, byte_count, new_port}
 use Rattle.ports.specs.declared.port.PortKind.{PortKind}
 use Rattle.ports.specs.declared.port.PortKind.TheVariants.{Console, Scratch, Ticker}
-use Rattle.board.specs.Ports.{PortStates, console_count, port_count, standard_kind, standard_ports}
+use Rattle.board.specs.Ports.{PortStates, console_count, port_count, ticker_base, standard_kind, standard_ports}
 use Rattle.sim_board.specs.Devices.{states_of}
 
-no_kind : (port : ℕ) (a b c : Bool) → nat_lt port console_count ≡ a → nat_lt port 12 ≡ b → nat_lt port port_count ≡ c → port_count ≤ port
+no_kind : (port : ℕ) (a b c : Bool) → nat_lt port console_count ≡ a → nat_lt port ticker_base ≡ b → nat_lt port port_count ≡ c
+    → port_count ≤ port
     → new_port Console ≡ new_port (if a then Console else if b then Scratch else if c then Ticker else Console)
 no_kind port true b c ea eb ec beyond = refl
 no_kind port false true c ea eb ec beyond = absurd (grind (arith, nat_tests))
@@ -31,7 +32,7 @@ are_standard state items count new = λ i port. by_number port (nat_lt port port
     by_number port false e =
         let beyond : port_count ≤ port = grind (arith, nat_tests) in
         get_or_past (map state items) port (new_port Console) (omega (arith, beyond, count, length-map items state))
-        ∙ no_kind port (nat_lt port console_count) (nat_lt port 12) (nat_lt port port_count) refl refl refl beyond
+        ∙ no_kind port (nat_lt port console_count) (nat_lt port ticker_base) (nat_lt port port_count) refl refl refl beyond
 
 no_bytes : (kind : PortKind) → byte_count (new_port kind) ≡ 0
 no_bytes Console = refl
