@@ -37,8 +37,8 @@ pub fn pack(alloc: Global, checked: &Checked, core: u8) -> Result<Plan, PackErro
         Ok(runs) => runs,
         Err(OutOfMemory) => return Err(PackError::OutOfMemory),
     };
-    let entries = checked.config().platform.cores[core as usize];
-    if runs.len() <= entries as usize {
+    let entries = checked.config().platform.cores[usize::from(core)];
+    if runs.len() <= usize::from(entries) {
         return Ok(plan_of(core, runs.as_slice()));
     }
     // A list of 2^32 runs is never had: it would take 160 GiB.

@@ -117,7 +117,7 @@ impl Phys {
         prove!(at <= self.len());
         let mut value = 0;
         for k in (0..u64::from(width)).rev() {
-            value = value * 256 + self.get(at + k) as u64;
+            value = value * 256 + u64::from(self.get(at + k));
         }
         value
     }

@@ -1,4 +1,4 @@
-use Rattle.std.proofs.Common.{◌≡◌, ◌≤◌, ◌∙◌, List, All, length, map, get_or, subst, sym, ap, arith}
+use Rattle.std.proofs.Common.{◌≡◌, ◌≤◌, ◌∙◌, List, Some, All, length, map, get_or, subst, sym, ap, arith}
 use Rattle.std.proofs.lemmas.List.Elements.{All-weaker}
 use Rattle.bao_types.specs.declared.region.Region.{Region}
 use Rattle.bao_wellformed.specs.Checked.{checked_data}
@@ -18,28 +18,29 @@ plan_of-requires-clause-sizes c =
     (All-weaker IsAligned (λ run. 64 ≤ run.range.size) (λ run aligned. aligned.least) c.in-Ok.runs.items
     (all_aligned (class_of cfg c.args.core) (class_granular cfg c.args.core c.args.checked.now.config.fits) c.in-Ok.runs.items 0 c.in-Ok.ensures.maximal))
 
-pub returns-then-len-entries-clause-packing : goal.returns-then-len-entries-clause-packing
-returns-then-len-entries-clause-packing c =
+pub returns-then-len-from-clause-packing : goal.returns-then-len-from-clause-packing
+returns-then-len-from-clause-packing c =
     record {
       runs = c.in-Ok.runs.items;
       maximal = c.in-Ok.ensures.maximal;
       of_core = c.plan_of.ensures.core;
       entries = c.plan_of.ensures.entries ∙ ap (map entry_of) c.as_slice.ensures.value;
       starts = c.plan_of.ensures.starts ∙ ap (λ (runs : List Run). map (λ (run : Run). run.range.base) runs) c.as_slice.ensures.value;
-      most = get_or c.deref.result.now c.args.core 0;
+      most = get_or c.deref.result.now c.from.result 0;
       of_platform =
           entries_of_core (checked_data c.args.checked.now) c.config.result.now c.deref.result.now c.args.core c.config.ensures c.deref.ensures.0
-          c.requires;
+          c.requires
+          ∙ ap (λ i. Some (get_or c.deref.result.now i 0)) (sym c.from.ensures);
       fits = omega arith;
     }
 
-pub returns-then-len-entries-clause-entries : goal.returns-then-len-entries-clause-entries
-returns-then-len-entries-clause-entries c =
+pub returns-then-len-from-clause-entries : goal.returns-then-len-from-clause-entries
+returns-then-len-from-clause-entries c =
     packing_is (checked_data c.args.checked.now) c.args.core c.args.checked.now.well_formed c.plan_of.result
-    (returns-then-len-entries-clause-packing c)
+    (returns-then-len-from-clause-packing c)
 
-pub returns-then-len-entries-clause-realises : goal.returns-then-len-entries-clause-realises
-returns-then-len-entries-clause-realises c =
+pub returns-then-len-from-clause-realises : goal.returns-then-len-from-clause-realises
+returns-then-len-from-clause-realises c =
     let cfg = checked_data c.args.checked.now in
     subst (λ (entries : List Region). Realises entries (class_of cfg c.args.core))
     (sym (c.plan_of.ensures.entries ∙ ap (map entry_of) c.as_slice.ensures.value))
@@ -55,7 +56,8 @@ returns-in-Ok-try_from-clause-refused c =
       counted = counted;
       of_platform =
           entries_of_core (checked_data c.args.checked.now) c.config.result.now c.deref.result.now c.args.core c.config.ensures c.deref.ensures.0
-          c.requires;
+          c.requires
+          ∙ ap (λ i. Some (get_or c.deref.result.now i 0)) (sym c.from.ensures);
       too_many = omega (arith, counted);
     }
 

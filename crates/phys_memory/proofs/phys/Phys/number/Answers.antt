@@ -11,12 +11,12 @@ overflow_mul-value c =
 pub overflow_add-value : goal.overflow_add-value
 overflow_add-value c =
     let w = c.requires.width in let i = c.loop-k.invariant in let le = c.loop-k.auto.k in let n = c.args.width - c.loop-k.k in
-    record { fits = below-word (c.loop-k.value * 256 + c.get.result) (n + 1) (omega arith) (below-more c.loop-k.value c.get.result n (n + 1) refl i.1 c.get.type_inv) }
+    record { fits = below-word (c.loop-k.value * 256 + c.from.result) (n + 1) (omega arith) (below-more c.loop-k.value c.from.result n (n + 1) refl i.1 (omega (arith, c.from.ensures, c.get.type_inv))) }
 
 pub loop-k-preserved : goal.loop-k-preserved
 loop-k-preserved c =
     let some = c.loop-k-test.true in let i = c.loop-k.invariant in let le = c.loop-k.auto.k in
     let at = c.args.at in let k = c.loop-k.k in let v = c.loop-k.value in let w = c.args.width in (
-      ap (λ n. v * 256 + n) c.get.ensures ∙ little_endian-more c.args.self.now (at + (k - 1)) (at + k) (at + w) v (omega arith) (omega arith) c.requires.range i.0,
-      below-more v c.get.result (w - k) (w - (k - 1)) (omega arith) i.1 c.get.type_inv,
+      ap (λ n. v * 256 + n) (c.from.ensures ∙ c.get.ensures) ∙ little_endian-more c.args.self.now (at + (k - 1)) (at + k) (at + w) v (omega arith) (omega arith) c.requires.range i.0,
+      below-more v c.from.result (w - k) (w - (k - 1)) (omega arith) i.1 (omega (arith, c.from.ensures, c.get.type_inv)),
     )
