@@ -39,7 +39,7 @@ pub record IsWritten (old new : BanksData) (from : ℕ) (bytes : List ℕ) : Typ
   pub others : (at : ℕ) → (at < from) ⊎ (from + length bytes ≤ at) → byte_at new at ≡ byte_at old at
   pub kept : is_kept new ≡ is_kept old
 
--- the pages lie one behind the other, no byte is in two banks, and each page has all its bytes
+-- the pages lie one after the other, no byte is in two banks, and each page has all its bytes
 pub record IsBanks (banks : BanksData) : Type 0 where
   pub laid : AreLaid 0 banks.places
   pub apart : AreApart (ranges_of banks.places)

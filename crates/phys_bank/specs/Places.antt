@@ -43,7 +43,7 @@ ranges_of places = map (λ place. place.range) places
 abbrev pub total_pages : List BankPlace → ℕ
 total_pages places = sum_by (λ place. page_count place.range) places
 
--- each bank's pages come right behind those of the banks before it
+-- each bank's pages come right after those of the banks before it
 abbrev pub AreLaid : ℕ → List BankPlace → Type 0
 AreLaid next [] = Unit {0}
 AreLaid next (place ∷ places) = (place.first ≡ next) × AreLaid (next + page_count place.range) places

@@ -146,7 +146,7 @@ impl Banks {
     {
         let mut value = 0;
         for k in (0..u64::from(width)).rev() {
-            value = value * 256 + self.get(at.wrapping_add(k)) as u64;
+            value = value * 256 + u64::from(self.get(at.wrapping_add(k)));
         }
         value
     }

@@ -1,4 +1,4 @@
-//! The banks' pages, one bank's behind the other's.
+//! The banks' pages, one bank's after the other's.
 ghost use Rattle.std.specs.Prelude.{◌≡◌, ◌≤◌, All, length, map, sum};
 ghost use Rattle.bao_types.specs.ByteRange.{address_space_end, end};
 ghost use Rattle.bao_types.specs.Shape.{memory_limit};

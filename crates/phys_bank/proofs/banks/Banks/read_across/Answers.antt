@@ -1,4 +1,4 @@
-use Rattle.std.proofs.Common.{◌+◌, ◌-◌, ◌*◌, refl, arith}
+use Rattle.std.proofs.Common.{◌+◌, ◌-◌, ◌*◌, ◌∙◌, refl, arith}
 use Rattle.phys_memory.proofs.Numbers.{below-more, below-word}
 use Rattle.phys_bank.specs.Banks.{byte_at}
 use Rattle.phys_bank.proofs.Kept.{number-more}
@@ -13,12 +13,12 @@ overflow_mul-value c =
 pub overflow_add-value : goal.overflow_add-value
 overflow_add-value c =
     let w = c.requires in let i = c.loop-k.invariant in let le = c.loop-k.auto.k in let n = c.args.width - c.loop-k.k in
-    record { fits = below-word (c.loop-k.value * 256 + c.get.result) (n + 1) (omega arith) (below-more c.loop-k.value c.get.result n (n + 1) refl i.1 c.get.type_inv) }
+    record { fits = below-word (c.loop-k.value * 256 + c.from.result) (n + 1) (omega arith) (below-more c.loop-k.value c.from.result n (n + 1) refl i.1 (omega (arith, c.from.ensures, c.get.type_inv))) }
 
 pub loop-k-preserved : goal.loop-k-preserved
 loop-k-preserved c =
     let some = c.loop-k-test.true in let i = c.loop-k.invariant in let le = c.loop-k.auto.k in
     let at = c.args.at in let k = c.loop-k.k in let v = c.loop-k.value in let w = c.args.width in (
-      number-more (byte_at c.args.self.now) at k w v c.get.result some (omega arith) c.get.ensures i.0,
-      below-more v c.get.result (w - k) (w - (k - 1)) (omega arith) i.1 c.get.type_inv,
+      number-more (byte_at c.args.self.now) at k w v c.from.result some (omega arith) (c.from.ensures ∙ c.get.ensures) i.0,
+      below-more v c.from.result (w - k) (w - (k - 1)) (omega arith) i.1 (omega (arith, c.from.ensures, c.get.type_inv)),
     )
