@@ -2,6 +2,7 @@
 use Rattle.std.specs.Prelude.{◌≡◌, ℕ, ℤ, pos, negsuc, ◌≤◌, ◌-◌, ◌%◌, ◌==◌, Bool, false, ◌&&◌, nat_le}
 use Rattle.bao_types.specs.ByteRange.{address_space_end}
 use Rattle.bao_types.specs.Controller.{frame_size, id_end}
+use Rattle.bao_types.specs.Region.{granule}
 use Rattle.bao_types.specs.Shape.{port_size}
 use Rattle.bao_config.specs.declared.bounds.Bounds.{Bounds}
 
@@ -16,10 +17,6 @@ abbrev pub is_in_bounds : Bounds → ℤ → Bool
 is_in_bounds bounds (pos n) = nat_le bounds.least n && nat_le n bounds.most && (n % bounds.multiple == 0)
 is_in_bounds bounds (negsuc n) = false
 
--- ranges of memory begin at a multiple of this many bytes, and their size is one
-abbrev pub granule : ℕ
-granule = 64
-
 -- the bytes of an instruction
 abbrev pub instruction_size : ℕ
 instruction_size = 4
@@ -27,11 +24,11 @@ instruction_size = 4
 abbrev pub version : Bounds
 version = record { least = 1; most = 1; multiple = 1 }
 
--- the first address of a range
+-- the first address of a range, which is a number of granules
 abbrev pub base : Bounds
 base = record { least = 0; most = address_space_end - granule; multiple = granule }
 
--- the number of bytes of a range
+-- the number of bytes of a range, which is a number of granules
 abbrev pub size : Bounds
 size = record { least = granule; most = address_space_end; multiple = granule }
 

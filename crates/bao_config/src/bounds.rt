@@ -1,10 +1,7 @@
 //! The bounds of the integers of a configuration.
 ghost use Rattle.std.specs.Prelude.{◌≡◌, ◌<◌, pos};
 
-use bao_types::{ADDRESS_SPACE_END, FRAME_SIZE, ID_END, PORT_SIZE};
-
-/// Ranges of memory begin at a multiple of this many bytes, and their size is one.
-pub const GRANULE: u64 = 64;
+use bao_types::{ADDRESS_SPACE_END, FRAME_SIZE, GRANULE, ID_END, PORT_SIZE};
 
 /// The bytes of an instruction.
 pub const INSTRUCTION_SIZE: u64 = 4;
@@ -38,14 +35,14 @@ pub const VERSION: Bounds = Bounds {
     multiple: 1,
 };
 
-/// The first address of a range.
+/// The first address of a range, which is a number of granules.
 pub const BASE: Bounds = Bounds {
     least: 0,
     most: ADDRESS_SPACE_END - GRANULE,
     multiple: GRANULE,
 };
 
-/// The number of bytes of a range.
+/// The number of bytes of a range, which is a number of granules.
 pub const SIZE: Bounds = Bounds {
     least: GRANULE,
     most: ADDRESS_SPACE_END,

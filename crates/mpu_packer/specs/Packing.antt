@@ -7,9 +7,8 @@ use Rattle.bao_types.specs.declared.access.Class.{Class}
 use Rattle.bao_types.specs.declared.access.Class.TheVariants.{Nothing, Hyp, Guest}
 use Rattle.bao_types.specs.declared.region.Region.{Region}
 use Rattle.bao_types.specs.ByteRange.{end}
-use Rattle.bao_types.specs.Region.{access_permission, attribute_index, is_enabled, matching_regions, shareability}
+use Rattle.bao_types.specs.Region.{access_permission, attribute_index, granule, is_enabled, matching_regions, shareability}
 use Rattle.bao_types.specs.Bits.{field}
-use Rattle.bao_config.specs.Bounds.{granule}
 use Rattle.region_list.specs.declared.run.Run.{Run}
 
 -- AP, XN and the attribute index for a class

@@ -1,13 +1,12 @@
 ghost use Rattle.std.specs.Prelude.{◌≡◌, ◌≤◌, ◌+◌, ◌^◌, ◌<◌, All, length, map};
 ghost use Rattle.bao_types.specs.ByteRange.{address_space_end, end};
-ghost use Rattle.bao_config.specs.Bounds.{granule};
+ghost use Rattle.bao_types.specs.Region.{granule};
 ghost use Rattle.mpu_packer.specs.Packing.{entry_of};
 ghost use Rattle.region_list.specs.Layers.{AreInSpace, IsInSpace};
 
 use crate::class::{attribute_of, execute_never_of, permission_of};
 use arrayvec::ArrayVec;
-use bao_config::bounds::GRANULE;
-use bao_types::Region;
+use bao_types::{GRANULE, Region};
 use region_list::Run;
 
 /// The most entries that a core has.
