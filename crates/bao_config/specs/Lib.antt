@@ -9,3 +9,4 @@ pub mod Spelled
 pub mod Config
 pub mod Answer
 pub mod Path
+pub mod Sample

@@ -5,6 +5,5 @@ pub mod Claims
 pub mod Laws
 pub mod Map
 pub mod Rules
-pub mod Sample
 pub mod WellFormed
 pub mod Windows

@@ -1,13 +1,13 @@
 ghost use Rattle.std.specs.Prelude.{◌≡◌, ◌∷◌, [], Some};
 ghost use Rattle.bao_wellformed.specs.WellFormed.{IsWellFormed, first_ill};
-ghost use Rattle.bao_wellformed.specs.Sample.{sample, vm_a, vm_b, all_access};
+ghost use Rattle.bao_config.specs.Sample.{two_vms, vm_a, vm_b, all_access};
 
 /// The sample of two VMs is well formed. A byte that two VMs have as memory is a break, and so is one that is memory of
 /// one and a window of the other. The function does nothing; its contract is these rows.
 pub fn rows_of_the_sample()
-    ensures well_formed { IsWellFormed (sample 0x180000 vm_a vm_b) }
+    ensures well_formed { IsWellFormed (two_vms 0x180000 vm_a vm_b) }
     ensures common_memory { first_ill
-        (sample 0x180000 vm_a (record vm_b { regions = all_access 0x10ffc0 0x40000 ∷ [] }))
+        (two_vms 0x180000 vm_a (record vm_b { regions = all_access 0x10ffc0 0x40000 ∷ [] }))
         ≡ Some (record {
           rule = 22;
           vm = 1;
@@ -16,7 +16,7 @@ pub fn rows_of_the_sample()
           second = record { base = 0x10ffc0; size = 0x40000 };
         }) }
     ensures window_on_memory { first_ill
-        (sample 0x148000 vm_a (record vm_b { ipcs = [] }))
+        (two_vms 0x148000 vm_a (record vm_b { ipcs = [] }))
         ≡ Some (record {
           rule = 22;
           vm = 1;
@@ -26,7 +26,7 @@ pub fn rows_of_the_sample()
         }) }
     // A guard over the common byte: the byte is the one VM's alone.
     ensures guarded { IsWellFormed
-        (sample 0x180000 vm_a (record vm_b {
+        (two_vms 0x180000 vm_a (record vm_b {
           regions = all_access 0x10ffc0 0x40000 ∷ [];
           guards = record { base = 0x10ffc0; size = 64 } ∷ [];
         })) }

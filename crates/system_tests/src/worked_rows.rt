@@ -1,5 +1,5 @@
 ghost use Rattle.std.specs.Prelude.{◌≡◌, ℕ, [], ◌∷◌, ◌++◌, slice_index, Some, codes};
-ghost use Rattle.system_tests.specs.Sample.{sample};
+ghost use Rattle.bao_config.specs.Sample.{one_vm as sample};
 ghost use Rattle.board.specs.Machine.{core_at};
 ghost use Rattle.vm_model.specs.Flat.{flat_run, entered_count};
 ghost use Rattle.vm_model.specs.Boot.{boot};
