@@ -137,7 +137,7 @@ fn push_ipcs(entries: &mut ArrayVec<MapEntry, MAP_ENTRIES>, config: &Config, ipc
 fn ipc_entry(config: &Config, ipc: &Ipc) -> Option<MapEntry>
     ensures { result ≡ ipc_entry (config_data config.now) (ipc_data ipc.now) }
 {
-    match config.shmems.as_slice().get(ipc.shmem as usize) {
+    match config.shmems.as_slice().get(usize::from(ipc.shmem)) {
         Some(shmem) => Some(MapEntry {
             range: shmem.range,
             kind: Kind::Window {

@@ -40,7 +40,7 @@ pub(crate) fn first_of_pairs<T, R: PairRule<T>>(rule: &R, items: &[T]) -> Option
     None
 }
 
-/// The first break of the rule by an item with one behind it.
+/// The first break of the rule by an item with one after it.
 fn first_with<T, R: PairRule<T>>(rule: &R, one: &T, later: &[T]) -> Option<Ill>
     ensures { result ≡ first (map (λ (one, other). R.report rule.now one other)
         (filter (λ (one, other). R.is_broken rule.now one other) (map (λ other. (one.now, other)) later.now))) }

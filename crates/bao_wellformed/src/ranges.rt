@@ -27,7 +27,7 @@ pub(crate) fn distributor(config: &Config) -> ByteRange
     }
 }
 
-/// The frames of the redistributors: one for each core of the platform, one behind the other.
+/// The frames of the redistributors: one for each core of the platform, one after the other.
 pub(crate) fn redistributors(config: &Config) -> ByteRange
     ensures { result ≡ redistributors (config_data config.now) }
 {

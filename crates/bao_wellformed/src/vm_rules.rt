@@ -48,7 +48,7 @@ impl VmRule for CoresExist {
 
     fn first_break(config: &Config, place: u8, vm: &Vm) -> Option<Ill> {
         for (item, core) in vm.cores.as_slice().iter().enumerate() {
-            if *core as usize >= config.platform.cores.len() {
+            if usize::from(*core) >= config.platform.cores.len() {
                 return Some(Ill {
                     vm: place,
                     item: item as u8,
@@ -146,7 +146,7 @@ impl VmRule for IpcsHaveShmems {
 
     fn first_break(config: &Config, place: u8, vm: &Vm) -> Option<Ill> {
         for (item, ipc) in vm.ipcs.as_slice().iter().enumerate() {
-            if ipc.shmem as usize >= config.shmems.len() {
+            if usize::from(ipc.shmem) >= config.shmems.len() {
                 return Some(Ill {
                     vm: place,
                     item: item as u8,
@@ -185,8 +185,8 @@ fn lacks_irqs(config: &Config, ipc: &Ipc) -> bool
     ensures { let cfg = config_data config.now in let asked = ipc_data ipc.now in
         result ≡ lacks_irqs (slice_get cfg.shmems asked.shmem) asked }
 {
-    match config.shmems.as_slice().get(ipc.shmem as usize) {
-        Some(shmem) => ipc.irqs.len() != shmem.events as usize,
+    match config.shmems.as_slice().get(usize::from(ipc.shmem)) {
+        Some(shmem) => ipc.irqs.len() != usize::from(shmem.events),
         None => false,
     }
 }
