@@ -281,9 +281,12 @@ module _ (one two : Stage) (places : Places) (states : PortStates) (bytes : ℕ 
 
   by_load : (instr : Instr) (shape : MemShape) → 1 ≤ shape.width → (fault : Option Fault) (free : Bool) (got other : ℕ)
       → first_fault one two Read shape.at (bytes_of shape) ≡ fault
-      → KeepsToItself (load_effect places core moment instr shape (fault_else fault (if free then Memory got else Port other)))
+      → KeepsToItself
+      (load_effect places core (record { moment = moment; instr = instr; shape = shape })
+      (fault_else fault (if free then Memory got else Port other)))
   unfolding AllStored
-  by_load instr shape some None true got other none = nothing (load_effect places core moment instr shape (Memory got)) refl refl
+  by_load instr shape some None true got other none =
+      nothing (load_effect places core (record { moment = moment; instr = instr; shape = shape }) (Memory got)) refl refl
   by_load instr shape some None false got other none =
       by_port instr shape _
       (record {
@@ -295,7 +298,9 @@ module _ (one two : Stage) (places : Places) (states : PortStates) (bytes : ℕ 
 
   by_store : (instr : Instr) (shape : MemShape) (value : ℕ) → 1 ≤ shape.width → (fault : Option Fault) (free : Bool)
       → first_fault one two Write shape.at (bytes_of shape) ≡ fault
-      → KeepsToItself (store_effect places core moment instr shape value (fault_else fault (if free then Memory 0 else Port 0)))
+      → KeepsToItself
+      (store_effect places core (record { moment = moment; instr = instr; shape = shape }) value
+      (fault_else fault (if free then Memory 0 else Port 0)))
   unfolding AllTouched
   by_store instr shape value some None true none = record {
     stored = from_place (λ at. is_allowed (both one two Write at)) shape.at (bytes_of shape) value

@@ -123,27 +123,39 @@ checked core instr shape judged =
 abbrev pub at_port : CoreData → Instr → MemShape → Effect → Effect
 at_port core instr shape aligned = if is_misaligned shape then misaligned core instr shape else aligned
 
--- a load, and a store of a value, as they are judged
-abbrev pub load_effect : Places → CoreData → Moment → Instr → MemShape → Judged → Effect
-load_effect places core moment instr shape (Memory got) = ran (finished core moment instr got)
-load_effect places core moment instr shape (Port got) =
-    at_port core instr shape
-    (record (ran (finished core moment instr got)) { touched = elements_read places shape.at shape.width shape.count })
-load_effect places core moment instr shape (Refused fault) =
-    data_aborted core instr fault.stage2 (code_of fault.verdict) fault.at
+-- an access, and the instruction that asks for it at a moment
+pub record Asked : Type 0 where
+  pub moment : Moment
+  pub instr : Instr
+  pub shape : MemShape
 
--- of a value
-abbrev pub store_effect : Places → CoreData → Moment → Instr → MemShape → ℕ → Judged → Effect
-store_effect places core moment instr shape value (Memory got) =
-    record (ran (finished core moment instr 0)) { stored = stores_from shape.at (bytes_of shape) value }
-store_effect places core moment instr shape value (Port got) =
-    at_port core instr shape
-    (record (ran (finished core moment instr 0)) {
+-- a load, as it is judged
+abbrev pub load_effect : Places → CoreData → Asked → Judged → Effect
+load_effect places core asked (Memory got) = ran (finished core asked.moment asked.instr got)
+load_effect places core asked (Port got) =
+    let shape : MemShape = asked.shape in
+    at_port core asked.instr shape
+    (record (ran (finished core asked.moment asked.instr got)) {
+      touched = elements_read places shape.at shape.width shape.count;
+    })
+load_effect places core asked (Refused fault) =
+    data_aborted core asked.instr fault.stage2 (code_of fault.verdict) fault.at
+
+-- a store of a value, as it is judged
+abbrev pub store_effect : Places → CoreData → Asked → ℕ → Judged → Effect
+store_effect places core asked value (Memory got) =
+    record (ran (finished core asked.moment asked.instr 0)) {
+      stored = stores_from asked.shape.at (bytes_of asked.shape) value;
+    }
+store_effect places core asked value (Port got) =
+    let shape : MemShape = asked.shape in
+    at_port core asked.instr shape
+    (record (ran (finished core asked.moment asked.instr 0)) {
       stored = elements_stored places shape.at shape.width shape.count value;
       touched = elements_written places shape.at shape.width shape.count value;
     })
-store_effect places core moment instr shape value (Refused fault) =
-    data_aborted core instr fault.stage2 (code_of fault.verdict) fault.at
+store_effect places core asked value (Refused fault) =
+    data_aborted core asked.instr fault.stage2 (code_of fault.verdict) fault.at
 
 -- What an instruction does that asks for this. An exception that goes to EL2 and is no abort changes PC at most.
 abbrev pub effect_of : Reach → CoreData → Moment → Instr → Need → Effect
@@ -152,10 +164,12 @@ effect_of reach core moment instr need.Acknowledge = record (ran (finished core 
 effect_of reach core moment instr (need.End id) = record (ran (finished core moment instr 0)) { outcome = Ended id }
 effect_of reach core moment instr (need.Load shape) =
     checked core instr shape
-    (load_effect reach.places core moment instr shape (reach.loaded shape.at shape.width shape.count))
+    (load_effect reach.places core (record { moment = moment; instr = instr; shape = shape })
+    (reach.loaded shape.at shape.width shape.count))
 effect_of reach core moment instr (need.Store shape value) =
     checked core instr shape
-    (store_effect reach.places core moment instr shape value (reach.storable shape.at shape.width shape.count))
+    (store_effect reach.places core (record { moment = moment; instr = instr; shape = shape }) value
+    (reach.storable shape.at shape.width shape.count))
 effect_of reach core moment instr (need.Raise esr back) = raised core esr None back
 effect_of reach core moment instr (need.Leave esr behind) = left (if behind then advanced core else core) esr 0
 
