@@ -13,7 +13,7 @@ use Rattle.vgic_iface.specs.Interface.{best_listed, listed_signal}
 use Rattle.a64_sysreg.specs.declared.moment.Moment.{Moment}
 use Rattle.board.specs.declared.board.Exit.{Exit}
 use Rattle.board.specs.declared.judged.Fault.{Fault}
-use Rattle.board.specs.Attempt.{Effect, attempt, checks_alignment, effect_of, is_misaligned, is_sp_misaligned, load_effect, store_effect}
+use Rattle.board.specs.Attempt.{Effect, attempt, checks_alignment, effect_of, is_misaligned, is_sp_misaligned, Asked, load_effect, store_effect}
 use Rattle.board.specs.Interrupts.{core_after, exit_of, lines_accessed, lists_after}
 use Rattle.board.specs.Judge.{Reach}
 use Rattle.board.specs.Machine.{written}
@@ -21,6 +21,7 @@ use Rattle.board.specs.Ports.{PortStates, all_accessed, number_at}
 use Rattle.sim_board.specs.Reached.{reached}
 use Rattle.sim_board.specs.declared.access.Way.{Way}
 use Rattle.sim_board.specs.declared.access.Way.TheVariants as way
+use Rattle.sim_board.specs.declared.step.Request.{Request}
 
 -- the core, its list registers, memory, the ports and the interrupt lines after a step, and how it ended
 pub record StepEnd : Type 0 where
@@ -71,14 +72,19 @@ IsBegun core entries next exit =
     → Begins (attempt (reached core entries spots states bytes) core moment)
     (worded (reached core entries spots states bytes) core moment bytes) core next exit
 
--- what a load and a store of this shape do, once SP and their start were checked
-abbrev pub load_judged : Reach → CoreData → Moment → Instr → MemShape → Effect
-load_judged reach core moment instr shape =
-    load_effect reach.places core moment instr shape (reach.loaded shape.at shape.width shape.count)
+-- the access of a request
+abbrev pub asked_of : Request → Asked
+asked_of request =
+    record { moment = request.fetched.now.moment; instr = request.fetched.now.instr; shape = request.shape.now }
 
-abbrev pub store_judged : Reach → CoreData → Moment → Instr → MemShape → ℕ → Effect
-store_judged reach core moment instr shape value =
-    store_effect reach.places core moment instr shape value (reach.storable shape.at shape.width shape.count)
+-- what a load and a store do, once SP and their start were checked
+abbrev pub load_judged : Reach → CoreData → Asked → Effect
+load_judged reach core asked =
+    load_effect reach.places core asked (reach.loaded asked.shape.at asked.shape.width asked.shape.count)
+
+abbrev pub store_judged : Reach → CoreData → Asked → ℕ → Effect
+store_judged reach core asked value =
+    store_effect reach.places core asked value (reach.storable asked.shape.at asked.shape.width asked.shape.count)
 
 -- an access with this first fault, of whose bytes none is a port's or some are
 abbrev pub way_of : Option Fault → Bool → Way

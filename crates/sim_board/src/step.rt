@@ -16,7 +16,7 @@ ghost use Rattle.board.specs.declared.judged.Judged.TheVariants.{Port};
 ghost use Rattle.phys_bank.specs.Banks.{byte_at, is_kept};
 ghost use Rattle.sim_board.specs.Devices.{is_backed};
 ghost use Rattle.sim_board.specs.Reached.{IsContained, reached};
-ghost use Rattle.sim_board.specs.Step.{carried_out, Ends, IsBegun, load_judged, moment_of, store_judged};
+ghost use Rattle.sim_board.specs.Step.{asked_of, carried_out, Ends, IsBegun, load_judged, moment_of, store_judged};
 
 use crate::access::{Way, byte_count, is_plain, judge, read_elements, write_elements};
 use crate::devices::Devices;
@@ -280,7 +280,7 @@ fn execute_load<D: Devices>(
         }
         ≡ carried_out
         (checked core.old request.now.fetched.now.instr request.now.shape.now
-        (load_effect (port_places (D.spots devices.old)) core.old request.now.fetched.now.moment request.now.fetched.now.instr request.now.shape.now
+        (load_effect (port_places (D.spots devices.old)) core.old (asked_of request.now)
         ((reached core.old table.old (D.spots devices.old) (D.states devices.old) (byte_at memory.now)).loaded
         request.now.shape.now.at request.now.shape.now.width request.now.shape.now.count)))
         lists (byte_at memory.now) (D.states devices.old) (D.lines devices.old) }
@@ -319,7 +319,7 @@ fn take_load<D: Devices>(
         }
         ≡ carried_out
         (load_judged (reached core.old table.old (D.spots devices.old) (D.states devices.old) (byte_at memory.now)) core.old
-        request.now.fetched.now.moment request.now.fetched.now.instr request.now.shape.now)
+        (asked_of request.now))
         lists (byte_at memory.now) (D.states devices.old) (D.lines devices.old) }
 {
     if is_plain(core, table, devices, Access::Read, request.shape) {
@@ -362,7 +362,7 @@ fn judge_load<D: Devices>(
         }
         ≡ carried_out
         (load_judged (reached core.old table.old (D.spots devices.old) (D.states devices.old) (byte_at memory.now)) core.old
-        request.now.fetched.now.moment request.now.fetched.now.instr request.now.shape.now)
+        (asked_of request.now))
         lists (byte_at memory.now) (D.states devices.old) (D.lines devices.old) }
 {
     match judge(core, table, devices, Access::Read, request.shape) {
@@ -398,7 +398,7 @@ fn load_port<D: Devices>(
           exit = result;
         }
         ≡ carried_out
-        (load_effect (port_places (D.spots devices.old)) core.old request.now.fetched.now.moment request.now.fetched.now.instr request.now.shape.now
+        (load_effect (port_places (D.spots devices.old)) core.old (asked_of request.now)
         (Port (elements_value (port_places (D.spots devices.old)) (D.states devices.old) (byte_at memory.now)
         request.now.shape.now.at request.now.shape.now.width request.now.shape.now.count)))
         lists (byte_at memory.now) (D.states devices.old) (D.lines devices.old) }
@@ -439,7 +439,7 @@ fn execute_store<D: Devices>(
         }
         ≡ carried_out
         (checked core.old request.now.fetched.now.instr request.now.shape.now
-        (store_effect (port_places (D.spots devices.old)) core.old request.now.fetched.now.moment request.now.fetched.now.instr request.now.shape.now request.now.value
+        (store_effect (port_places (D.spots devices.old)) core.old (asked_of request.now) request.now.value
         ((reached core.old table.old (D.spots devices.old) (D.states devices.old) (byte_at memory.old)).storable
         request.now.shape.now.at request.now.shape.now.width request.now.shape.now.count)))
         lists (byte_at memory.old) (D.states devices.old) (D.lines devices.old) }
@@ -481,7 +481,7 @@ fn take_store<D: Devices>(
         }
         ≡ carried_out
         (store_judged (reached core.old table.old (D.spots devices.old) (D.states devices.old) (byte_at memory.old)) core.old
-        request.now.fetched.now.moment request.now.fetched.now.instr request.now.shape.now request.now.value)
+        (asked_of request.now) request.now.value)
         lists (byte_at memory.old) (D.states devices.old) (D.lines devices.old) }
 {
     if is_plain(core, table, devices, Access::Write, request.shape) {
@@ -532,7 +532,7 @@ fn judge_store<D: Devices>(
         }
         ≡ carried_out
         (store_judged (reached core.old table.old (D.spots devices.old) (D.states devices.old) (byte_at memory.old)) core.old
-        request.now.fetched.now.moment request.now.fetched.now.instr request.now.shape.now request.now.value)
+        (asked_of request.now) request.now.value)
         lists (byte_at memory.old) (D.states devices.old) (D.lines devices.old) }
 {
     match judge(core, table, devices, Access::Write, request.shape) {
@@ -576,7 +576,7 @@ fn store_port<D: Devices>(
           exit = result;
         }
         ≡ carried_out
-        (store_effect (port_places (D.spots devices.old)) core.old request.now.fetched.now.moment request.now.fetched.now.instr request.now.shape.now request.now.value
+        (store_effect (port_places (D.spots devices.old)) core.old (asked_of request.now) request.now.value
         (Port 0))
         lists (byte_at memory.old) (D.states devices.old) (D.lines devices.old) }
 {

@@ -8,7 +8,7 @@ use Rattle.board.specs.Judge.{all_from, first_fault, has_no_port}
 use Rattle.board.specs.declared.judged.Judged.TheVariants.{Memory, Port}
 use Rattle.board.specs.Machine.{port_places}
 use Rattle.board.specs.Stage.{by_entries, by_regions}
-use Rattle.sim_board.specs.Step.{carried_out}
+use Rattle.sim_board.specs.Step.{asked_of, carried_out}
 use Rattle.sim_board.proofs.Confined.{backed_all}
 use Rattle.sim_board.proofs.Ways.{in_ports, kept_in_memory, no_fault_ports, not_at_all}
 use Rattle.sim_board.proofs.step.judge_store.Goals as goal
@@ -32,7 +32,7 @@ returns-in-Refused-clause-end g c =
     let states = g.D.Devices.states c.args.devices.now in let lines = g.D.Devices.lines c.args.devices.now in
     λ lists. c.refuse_data.ensures lists bytes states lines
     ∙ ap (λ judged. carried_out
-    (store_effect (port_places (g.D.Devices.spots c.args.devices.now)) c.args.core.now request.fetched.now.moment request.fetched.now.instr request.shape.now request.value judged)
+    (store_effect (port_places (g.D.Devices.spots c.args.devices.now)) c.args.core.now (asked_of request) request.value judged)
     lists bytes states lines)
     (not_at_all _ _ _ _ c.in-Refused.fault c.in-Refused.ensures.way)
 
@@ -43,7 +43,7 @@ returns-in-Port-clause-end g c =
     let states = g.D.Devices.states c.args.devices.now in let lines = g.D.Devices.lines c.args.devices.now in
     λ lists. c.store_port.ensures.end lists
     ∙ ap (λ judged. carried_out
-    (store_effect (port_places spots) c.args.core.now request.fetched.now.moment request.fetched.now.instr shape request.value judged)
+    (store_effect (port_places spots) c.args.core.now (asked_of request) request.value judged)
     lists bytes states lines)
     (in_ports (first_fault (by_regions c.args.core.now) (by_entries c.args.table.now) Write shape.at (bytes_of shape))
     (has_no_port (port_places spots) shape.at (bytes_of shape)) (Memory 0) (Port 0) c.in-Port.ensures.way)
