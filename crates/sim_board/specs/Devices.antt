@@ -4,9 +4,20 @@ use Rattle.bao_types.specs.Shape.{event_limit}
 use Rattle.bao_types.specs.declared.shape.PortSpot.{PortSpot}
 use Rattle.ports.specs.PortState.{PortState, new_port}
 use Rattle.ports.specs.declared.port.PortKind.TheVariants.{Console}
+use Rattle.gic_core.specs.Lines.{LinesData}
 use Rattle.board.specs.Machine.{port_places}
-use Rattle.board.specs.Ports.{PortByte as PlaceInPort, PortStates, is_port}
+use Rattle.board.specs.Ports.{PortByte as PlaceInPort, Places, PortStates, is_port}
 use Rattle.sim_board.specs.declared.spots.PortByte.{PortByte}
+
+-- where the ports stand, what each of them keeps, by its number, and which interrupt lines are raised
+pub record DevicesData : Type 0 where
+  pub spots : List PortSpot
+  pub ports : PortStates
+  pub lines : LinesData
+
+-- for each address, the byte of a port that stands there
+abbrev pub places_in : DevicesData → Places
+places_in devices = port_places devices.spots
 
 -- what each port keeps, by its number, of ports whose states are listed in order
 abbrev pub states_of : List PortState → PortStates

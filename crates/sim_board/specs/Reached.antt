@@ -6,14 +6,12 @@ use Rattle.bao_types.specs.declared.shape.PortSpot.{PortSpot}
 use Rattle.a64_state.specs.Core.{CoreData}
 use Rattle.board.specs.Stage.{by_entries, by_regions, is_allowed}
 use Rattle.board.specs.Judge.{Reach, reach_of}
-use Rattle.board.specs.Machine.{port_places}
-use Rattle.board.specs.Ports.{PortStates}
-use Rattle.sim_board.specs.Devices.{is_backed}
+use Rattle.sim_board.specs.Devices.{DevicesData, is_backed, places_in}
 
--- where these ports stand and keep this, over these bytes of memory
-abbrev pub reached : CoreData → List Region → List PortSpot → PortStates → (ℕ → ℕ) → Reach
-reached core entries spots states bytes =
-    reach_of (by_regions core) (by_entries entries) (port_places spots) states bytes
+-- over these bytes of memory and these devices
+abbrev pub reached : CoreData → List Region → (ℕ → ℕ) → DevicesData → Reach
+reached core entries bytes devices =
+    reach_of (by_regions core) (by_entries entries) (places_in devices) devices.ports bytes
 
 -- what the second stage lets a core store to is a port's or is kept
 abbrev pub IsContained : (ℕ → Bool) → List Region → List PortSpot → Type 0

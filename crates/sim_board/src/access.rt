@@ -7,10 +7,10 @@ ghost use Rattle.board.specs.Stage.{by_entries, by_regions};
 ghost use Rattle.board.specs.Judge.{all_from, first_fault, has_no_port};
 ghost use Rattle.board.specs.Attempt.{is_misaligned};
 ghost use Rattle.board.specs.Interrupts.{lines_accessed};
-ghost use Rattle.board.specs.Machine.{port_places, written};
+ghost use Rattle.board.specs.Machine.{written};
 ghost use Rattle.board.specs.Ports.{all_accessed, element_read, element_stored, element_value, element_written, elements_read, elements_stored, elements_value, elements_written};
 ghost use Rattle.phys_bank.specs.Banks.{byte_at, is_kept};
-ghost use Rattle.sim_board.specs.Devices.{is_backed};
+ghost use Rattle.sim_board.specs.Devices.{is_backed, places_in};
 ghost use Rattle.sim_board.specs.Memory.{IsSpanned};
 ghost use Rattle.sim_board.specs.declared.access.Way.TheVariants as way;
 ghost use Rattle.sim_board.specs.Step.{way_of};
@@ -49,7 +49,7 @@ pub(crate) fn is_plain<D: Devices>(
     requires { IsAccess shape.now }
     ensures { OnTrue result (way.Memory ≡ way_of
         (first_fault (by_regions core.now) (by_entries table.now) access shape.now.at (bytes_of shape.now))
-        (has_no_port (port_places (D.spots devices.now)) shape.now.at (bytes_of shape.now))) }
+        (has_no_port (places_in (D.view devices.now)) shape.now.at (bytes_of shape.now))) }
 {
     let count = byte_count(shape) as u8;
     if !passes_at_once(core, table, access, shape.at, count) {
@@ -70,7 +70,7 @@ pub(crate) fn judge<D: Devices>(
     requires { IsAccess shape.now }
     ensures way { result ≡ way_of
         (first_fault (by_regions core.now) (by_entries table.old) access shape.now.at (bytes_of shape.now))
-        (has_no_port (port_places (D.spots devices.now)) shape.now.at (bytes_of shape.now)) }
+        (has_no_port (places_in (D.view devices.now)) shape.now.at (bytes_of shape.now)) }
     ensures entries { table.new ≡ table.old }
 {
     let count = byte_count(shape) as u8;
@@ -83,7 +83,7 @@ pub(crate) fn judge<D: Devices>(
 /// How an access is carried out each of whose bytes is allowed.
 #[inline(always)]
 fn way_allowed<D: Devices>(devices: &D, at: u64, count: u8) -> Way
-    ensures { result ≡ way_of None (has_no_port (port_places (D.spots devices.now)) at count) }
+    ensures { result ≡ way_of None (has_no_port (places_in (D.view devices.now)) at count) }
 {
     if devices.has_no_port(at, count) {
         Way::Memory
@@ -107,15 +107,16 @@ pub(crate) fn byte_count(shape: &MemShape) -> u32
 pub(crate) fn read_elements<D: Devices>(memory: &Banks, devices: &mut D, shape: &MemShape) -> u128
     requires access { IsAccess shape.now }
     requires aligned { is_misaligned shape.now ≡ false }
-    ensures value { result ≡ elements_value (port_places (D.spots devices.old)) (D.states devices.old) (byte_at memory.now)
+    ensures value { result ≡ elements_value (places_in (D.view devices.old)) (D.view devices.old).ports (byte_at memory.now)
         shape.now.at shape.now.width shape.now.count }
-    ensures states { D.states devices.new
-        ≡ all_accessed (elements_read (port_places (D.spots devices.old)) shape.now.at shape.now.width shape.now.count) (D.states devices.old) }
-    ensures lines { D.lines devices.new
-        ≡ lines_accessed (elements_read (port_places (D.spots devices.old)) shape.now.at shape.now.width shape.now.count)
-        (D.states devices.old) (D.lines devices.old) }
+    ensures states { (D.view devices.new).ports
+        ≡ all_accessed (elements_read (places_in (D.view devices.old)) shape.now.at shape.now.width shape.now.count)
+        (D.view devices.old).ports }
+    ensures lines { (D.view devices.new).lines
+        ≡ lines_accessed (elements_read (places_in (D.view devices.old)) shape.now.at shape.now.width shape.now.count)
+        (D.view devices.old).ports (D.view devices.old).lines }
     ensures room { D.room devices.new ≡ D.room devices.old }
-    ensures spots { D.spots devices.new ≡ D.spots devices.old }
+    ensures spots { (D.view devices.new).spots ≡ (D.view devices.old).spots }
 {
     let first = read_element(memory, devices, shape.at, shape.width);
     if shape.count == 1 {
@@ -130,12 +131,14 @@ pub(crate) fn read_elements<D: Devices>(memory: &Banks, devices: &mut D, shape: 
 fn read_element<D: Devices>(memory: &Banks, devices: &mut D, at: u64, width: u32) -> u64
     requires width { IsWidth width }
     requires aligned { at % width ≡ 0 }
-    ensures value { result ≡ element_value (D.states devices.old) (byte_at memory.now) (port_places (D.spots devices.old) at) at width }
-    ensures states { D.states devices.new ≡ all_accessed (element_read (port_places (D.spots devices.old) at) width) (D.states devices.old) }
-    ensures lines { D.lines devices.new
-        ≡ lines_accessed (element_read (port_places (D.spots devices.old) at) width) (D.states devices.old) (D.lines devices.old) }
+    ensures value { result
+        ≡ element_value (D.view devices.old).ports (byte_at memory.now) (places_in (D.view devices.old) at) at width }
+    ensures states { (D.view devices.new).ports
+        ≡ all_accessed (element_read (places_in (D.view devices.old) at) width) (D.view devices.old).ports }
+    ensures lines { (D.view devices.new).lines
+        ≡ lines_accessed (element_read (places_in (D.view devices.old) at) width) (D.view devices.old).ports (D.view devices.old).lines }
     ensures room { D.room devices.new ≡ D.room devices.old }
-    ensures spots { D.spots devices.new ≡ D.spots devices.old }
+    ensures spots { (D.view devices.new).spots ≡ (D.view devices.old).spots }
 {
     match devices.read(at, width) {
         Some(got) => got,
@@ -153,18 +156,20 @@ pub(crate) fn write_elements<D: Devices>(
 )
     requires access { IsAccess shape.now }
     requires aligned { is_misaligned shape.now ≡ false }
-    requires backed { IsTrue (all_from (is_backed (D.spots devices.old) (is_kept memory.old)) shape.now.at (bytes_of shape.now)) }
+    requires backed { IsTrue (all_from (is_backed (D.view devices.old).spots (is_kept memory.old)) shape.now.at (bytes_of shape.now)) }
     requires room { 2 ≤ D.room devices.old }
     ensures kept { is_kept memory.new ≡ is_kept memory.old }
     ensures bytes { byte_at memory.new
-        ≡ written (elements_stored (port_places (D.spots devices.old)) shape.now.at shape.now.width shape.now.count value) (byte_at memory.old) }
-    ensures states { D.states devices.new
-        ≡ all_accessed (elements_written (port_places (D.spots devices.old)) shape.now.at shape.now.width shape.now.count value) (D.states devices.old) }
-    ensures lines { D.lines devices.new
-        ≡ lines_accessed (elements_written (port_places (D.spots devices.old)) shape.now.at shape.now.width shape.now.count value)
-        (D.states devices.old) (D.lines devices.old) }
+        ≡ written (elements_stored (places_in (D.view devices.old)) shape.now.at shape.now.width shape.now.count value)
+        (byte_at memory.old) }
+    ensures states { (D.view devices.new).ports
+        ≡ all_accessed (elements_written (places_in (D.view devices.old)) shape.now.at shape.now.width shape.now.count value)
+        (D.view devices.old).ports }
+    ensures lines { (D.view devices.new).lines
+        ≡ lines_accessed (elements_written (places_in (D.view devices.old)) shape.now.at shape.now.width shape.now.count value)
+        (D.view devices.old).ports (D.view devices.old).lines }
     ensures room { D.room devices.old ≤ D.room devices.new + 2 }
-    ensures spots { D.spots devices.new ≡ D.spots devices.old }
+    ensures spots { (D.view devices.new).spots ≡ (D.view devices.old).spots }
 {
     write_element(memory, devices, shape.at, shape.width, value);
     if shape.count == 2 {
@@ -183,15 +188,18 @@ pub(crate) fn write_elements<D: Devices>(
 fn write_element<D: Devices>(memory: &mut Banks, devices: &mut D, at: u64, width: u32, value: u128)
     requires width { IsWidth width }
     requires aligned { at % width ≡ 0 }
-    requires backed { IsTrue (all_from (is_backed (D.spots devices.old) (is_kept memory.old)) at width) }
+    requires backed { IsTrue (all_from (is_backed (D.view devices.old).spots (is_kept memory.old)) at width) }
     requires room { 1 ≤ D.room devices.old }
     ensures kept { is_kept memory.new ≡ is_kept memory.old }
-    ensures bytes { byte_at memory.new ≡ written (element_stored (port_places (D.spots devices.old) at) at width value) (byte_at memory.old) }
-    ensures states { D.states devices.new ≡ all_accessed (element_written (port_places (D.spots devices.old) at) width value) (D.states devices.old) }
-    ensures lines { D.lines devices.new
-        ≡ lines_accessed (element_written (port_places (D.spots devices.old) at) width value) (D.states devices.old) (D.lines devices.old) }
+    ensures bytes { byte_at memory.new
+        ≡ written (element_stored (places_in (D.view devices.old) at) at width value) (byte_at memory.old) }
+    ensures states { (D.view devices.new).ports
+        ≡ all_accessed (element_written (places_in (D.view devices.old) at) width value) (D.view devices.old).ports }
+    ensures lines { (D.view devices.new).lines
+        ≡ lines_accessed (element_written (places_in (D.view devices.old) at) width value)
+        (D.view devices.old).ports (D.view devices.old).lines }
     ensures room { D.room devices.old ≤ D.room devices.new + 1 }
-    ensures spots { D.spots devices.new ≡ D.spots devices.old }
+    ensures spots { (D.view devices.new).spots ≡ (D.view devices.old).spots }
 {
     if !devices.write(at, width, value) {
         store(memory, at, width, value);

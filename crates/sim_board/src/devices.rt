@@ -3,15 +3,14 @@ ghost use Rattle.std.specs.Prelude.{◌≡◌, ℕ, ◌+◌, ◌*◌, ◌≤◌,
 ghost use Rattle.std.specs.Option.{option_map};
 ghost use Rattle.bao_types.specs.Bytes.{IsWidth};
 ghost use Rattle.bao_types.specs.Shape.{event_limit, port_size};
-ghost use Rattle.bao_types.specs.declared.shape.PortSpot.{PortSpot};
 ghost use Rattle.ports.specs.PortState.{byte_count, output_of};
 ghost use Rattle.ports.specs.Registers.{after_input, after_read, after_write, line_of_input, line_of_write, value_read};
-ghost use Rattle.gic_core.specs.Lines.{LinesData, quiet_lines};
+ghost use Rattle.gic_core.specs.Lines.{quiet_lines};
 ghost use Rattle.board.specs.Interrupts.{lines_accessed, lines_given, with_port_if};
 ghost use Rattle.board.specs.Judge.{has_no_port};
 ghost use Rattle.board.specs.Machine.{port_places};
-ghost use Rattle.board.specs.Ports.{PortStates, all_accessed, element_read, element_written, is_port, outputs, port_count, with_port};
-ghost use Rattle.sim_board.specs.Devices.{least_room, states_of};
+ghost use Rattle.board.specs.Ports.{all_accessed, element_read, element_written, is_port, outputs, port_count, with_port};
+ghost use Rattle.sim_board.specs.Devices.{DevicesData, least_room, places_in, states_of};
 ghost use Rattle.sim_board.specs.Gap.{IsGap};
 
 use crate::gap::Gap;
@@ -24,33 +23,28 @@ use std::alloc::Global;
 
 /// The ports of a board and the interrupt lines that they raise, as its calls and a core's step reach them.
 pub(crate) trait Devices {
-    // what each port keeps, by its number
-    ghost states: { Self → PortStates };
+    // where the ports stand that the board's shape has, what each port keeps, and which interrupt lines are raised
+    ghost view: { Self → DevicesData };
 
     // for how many writes and inputs each port has room, of as many as a board takes at most
     ghost room: { Self → ℕ };
 
-    // where the ports stand that the board's shape has
-    ghost spots: { Self → List PortSpot };
-
-    // which interrupt lines are raised
-    ghost lines: { Self → LinesData };
-
     /// Whether none of so many bytes is a port's.
     fn has_no_port(&self, at: u64, count: u8) -> bool
-        ensures { result ≡ has_no_port (port_places (spots self.now)) at count };
+        ensures { result ≡ has_no_port (places_in (view self.now)) at count };
 
     /// Reads an element in the port that has its first byte; None where none has.
     fn read(&mut self, at: u64, width: u32) -> Option<u64>
         requires width { IsWidth width }
         requires aligned { at % width ≡ 0 }
-        ensures value { result ≡ option_map (λ byte. value_read (states self.old byte.port) byte.offset width)
-            (port_places (spots self.old) at) }
-        ensures states { states self.new ≡ all_accessed (element_read (port_places (spots self.old) at) width) (states self.old) }
-        ensures lines { lines self.new
-            ≡ lines_accessed (element_read (port_places (spots self.old) at) width) (states self.old) (lines self.old) }
+        ensures value { result ≡ option_map (λ byte. value_read ((view self.old).ports byte.port) byte.offset width)
+            (places_in (view self.old) at) }
+        ensures states { (view self.new).ports
+            ≡ all_accessed (element_read (places_in (view self.old) at) width) (view self.old).ports }
+        ensures lines { (view self.new).lines
+            ≡ lines_accessed (element_read (places_in (view self.old) at) width) (view self.old).ports (view self.old).lines }
         ensures room { room self.new ≡ room self.old }
-        ensures spots { spots self.new ≡ spots self.old };
+        ensures spots { (view self.new).spots ≡ (view self.old).spots };
 
     /// Writes an element, the lowest bytes of a value, in the port that has its first byte, and answers whether one has. The
     /// port's line is raised where the write asks for it.
@@ -58,51 +52,52 @@ pub(crate) trait Devices {
         requires width { IsWidth width }
         requires aligned { at % width ≡ 0 }
         requires room { 1 ≤ room self.old }
-        ensures port { result ≡ is_port (port_places (spots self.old)) at }
-        ensures apart { result ≡ false → IsTrue (has_no_port (port_places (spots self.old)) at width) }
-        ensures states { states self.new ≡ all_accessed (element_written (port_places (spots self.old) at) width value) (states self.old) }
-        ensures lines { lines self.new
-            ≡ lines_accessed (element_written (port_places (spots self.old) at) width value) (states self.old) (lines self.old) }
+        ensures port { result ≡ is_port (places_in (view self.old)) at }
+        ensures apart { result ≡ false → IsTrue (has_no_port (places_in (view self.old)) at width) }
+        ensures states { (view self.new).ports
+            ≡ all_accessed (element_written (places_in (view self.old) at) width value) (view self.old).ports }
+        ensures lines { (view self.new).lines
+            ≡ lines_accessed (element_written (places_in (view self.old) at) width value) (view self.old).ports (view self.old).lines }
         ensures room { room self.old ≤ room self.new + 1 }
-        ensures spots { spots self.new ≡ spots self.old };
+        ensures spots { (view self.new).spots ≡ (view self.old).spots };
 
     /// Gives a port a byte, and raises its line where the byte asks for it.
     fn input(&mut self, port: u8, byte: u8)
         requires port { port < port_count }
         requires room { 1 ≤ room self.old }
-        ensures states { states self.new ≡ with_port port (after_input (states self.old port) byte) (states self.old) }
-        ensures lines { lines self.new ≡ lines_given (states self.old) port (lines self.old) }
+        ensures states { (view self.new).ports ≡ with_port port (after_input ((view self.old).ports port) byte) (view self.old).ports }
+        ensures lines { (view self.new).lines ≡ lines_given (view self.old).ports port (view self.old).lines }
         ensures room { room self.old ≤ room self.new + 1 }
-        ensures spots { spots self.new ≡ spots self.old };
+        ensures spots { (view self.new).spots ≡ (view self.old).spots };
 
     /// Makes room in each port for two writes or inputs of each event.
     fn reserve(&mut self, alloc: Global, events: u32) -> Result<(), OutOfMemory>
         requires events { events ≤ event_limit }
-        requires bytes { (port : ℕ) → byte_count (states self.old port) ≤ 2 * event_limit }
+        requires bytes { (port : ℕ) → byte_count ((view self.old).ports port) ≤ 2 * event_limit }
         ensures room { OnOk result (2 * events ≤ room self.new) }
-        ensures states { states self.new ≡ states self.old }
-        ensures lines { lines self.new ≡ lines self.old }
-        ensures spots { spots self.new ≡ spots self.old };
+        ensures states { (view self.new).ports ≡ (view self.old).ports }
+        ensures lines { (view self.new).lines ≡ (view self.old).lines }
+        ensures spots { (view self.new).spots ≡ (view self.old).spots };
 
     /// Lets the ports stand at these addresses, with no line raised; `near` is one that most accesses are near.
     fn stand(&mut self, places: ArrayVec<PortSpot, 16>, near: u64)
         requires numbers { All (λ spot. spot.id < port_count) places.items }
         requires bases { All (λ spot. spot.base % port_size ≡ 0) places.items }
-        ensures spots { spots self.new ≡ places.items }
-        ensures lines { lines self.new ≡ quiet_lines places.items }
-        ensures states { states self.new ≡ states self.old }
+        ensures spots { (view self.new).spots ≡ places.items }
+        ensures lines { (view self.new).lines ≡ quiet_lines places.items }
+        ensures states { (view self.new).ports ≡ (view self.old).ports }
         ensures room { room self.new ≡ room self.old };
 
     /// How many bytes a port has put out.
     fn out_len(&self, port: u8) -> u32
         requires { port < port_count }
-        ensures { result ≡ length (outputs (states self.now) port) };
+        ensures { result ≡ length (outputs (view self.now).ports port) };
 
     /// One of the bytes that a port has put out.
     fn out_at(&self, port: u8, i: u32) -> u8
         requires port { port < port_count }
-        requires place { i < length (outputs (states self.now) port) }
-        ensures { result ≡ slice_index (outputs (states self.now) port) i };
+        requires place { i < length (outputs (view self.now).ports port) }
+        ensures { result ≡ slice_index (outputs (view self.now).ports port) i };
 }
 
 /// Ports of which nothing is known but that they are ports.
@@ -122,13 +117,13 @@ pub(crate) struct BoxedPorts {
 }
 
 impl Devices for BoxedPorts {
-    ghost states = { λ devices. states_of (map (λ port. (Port-box port).state port.value) devices.ports.items) };
+    ghost view = { λ devices. record {
+      spots = devices.spots.items;
+      ports = states_of (map (λ port. (Port-box port).state port.value) devices.ports.items);
+      lines = devices.lines;
+    } };
 
     ghost room = { λ devices. least_room (map (λ port. (Port-box port).spare port.value) devices.ports.items) };
-
-    ghost spots = { λ devices. devices.spots.items };
-
-    ghost lines = { λ devices. devices.lines };
 
     #[inline(always)]
     fn has_no_port(&self, at: u64, count: u8) -> bool {
@@ -196,8 +191,8 @@ impl BoxedPorts {
     /// These ports, none of which stands anywhere yet.
     pub fn new(ports: Vec<Box<dyn Port>>) -> BoxedPorts
         requires { length ports.items ≡ port_count }
-        ensures states { ⟦<BoxedPorts as Devices>⟧.states result ≡ states_of (map (λ port. state port) ports.items) }
-        ensures spots { ⟦<BoxedPorts as Devices>⟧.spots result ≡ [] }
+        ensures states { (⟦<BoxedPorts as Devices>⟧.view result).ports ≡ states_of (map (λ port. state port) ports.items) }
+        ensures spots { (⟦<BoxedPorts as Devices>⟧.view result).spots ≡ [] }
     {
         BoxedPorts {
             ports,

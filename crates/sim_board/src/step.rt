@@ -3,20 +3,16 @@ ghost use Rattle.std.specs.Prelude.{◌≡◌, ◌+◌, ◌≤◌, ◌<◌, ℕ,
 ghost use Rattle.bao_types.specs.ListReg.{ListRegData};
 ghost use Rattle.a64_decode.specs.Lawful.{IsLawful};
 ghost use Rattle.a64_execute.specs.Branch.{advanced};
-ghost use Rattle.a64_execute.specs.Want.{wanted, access_asked, bytes_of, IsAccess};
+ghost use Rattle.a64_execute.specs.Want.{wanted, bytes_of};
 ghost use Rattle.a64_execute.specs.Finish.{finished};
 ghost use Rattle.exceptions.specs.Entry.{entered};
-ghost use Rattle.board.specs.Attempt.{Acknowledged, Ended, takes_irq, attempt, checked, effect_of, load_effect, ran, step_effect, store_effect};
+ghost use Rattle.board.specs.Attempt.{Acknowledged, Ended, takes_irq, attempt, ran};
 ghost use Rattle.board.specs.Interrupts.{lines_timed, timed};
 ghost use Rattle.board.specs.Judge.{all_from};
-ghost use Rattle.board.specs.Machine.{port_places};
-ghost use Rattle.board.specs.Ports.{PortStates, elements_value};
-ghost use Rattle.gic_core.specs.Lines.{LinesData};
-ghost use Rattle.board.specs.declared.judged.Judged.TheVariants.{Port};
-ghost use Rattle.phys_bank.specs.Banks.{byte_at, is_kept};
-ghost use Rattle.sim_board.specs.Devices.{is_backed};
-ghost use Rattle.sim_board.specs.Reached.{IsContained, reached};
-ghost use Rattle.sim_board.specs.Step.{asked_of, carried_out, Ends, IsBegun, load_judged, moment_of, store_judged};
+ghost use Rattle.phys_bank.specs.Banks.{BanksData, is_kept};
+ghost use Rattle.sim_board.specs.Devices.{DevicesData, is_backed};
+ghost use Rattle.sim_board.specs.Reached.{IsContained};
+ghost use Rattle.sim_board.specs.Step.{attempt_in, checked_in, Ends, executed_in, IsBegun, IsRequested, Leads, load_in, port_load_in, port_store_in, step_in, step_state, store_in};
 
 use crate::access::{Way, byte_count, is_plain, judge, read_elements, write_elements};
 use crate::devices::Devices;
@@ -76,24 +72,14 @@ pub(crate) fn step_core<D: Devices>(
     table: &mut Table,
     now: u64,
 ) -> Exit
-    requires contained { IsContained (is_kept memory.old) table.old (D.spots devices.old) }
+    requires contained { IsContained (is_kept memory.old) table.old (D.view devices.old).spots }
     requires room { 2 ≤ D.room devices.old }
     ensures kept { is_kept memory.new ≡ is_kept memory.old }
     ensures entries { table.new ≡ table.old }
-    ensures spots { D.spots devices.new ≡ D.spots devices.old }
+    ensures spots { (D.view devices.new).spots ≡ (D.view devices.old).spots }
     ensures room { D.room devices.old ≤ D.room devices.new + 2 }
-    ensures end { record {
-      core = core.new;
-      lists = lists.new;
-      bytes = byte_at memory.new;
-      ports = D.states devices.new;
-      lines = D.lines devices.new;
-      exit = result;
-    }
-        ≡ carried_out
-        (step_effect (reached core.old table.old (D.spots devices.old) (D.states devices.old) (byte_at memory.old)) core.old
-        (moment_of core.old lists.old now))
-        lists.old (byte_at memory.old) (D.states devices.old) (D.lines devices.old) }
+    ensures end { Leads (step_in table.old now) (step_state core.old lists.old memory.old (D.view devices.old))
+        (step_state core.new lists.new memory.new (D.view devices.new)) result }
 {
     let moment = Moment {
         count: now,
@@ -132,23 +118,14 @@ fn attempt<D: Devices>(
     table: &mut Table,
     moment: &Moment,
 ) -> Exit
-    requires contained { IsContained (is_kept memory.old) table.old (D.spots devices.old) }
+    requires contained { IsContained (is_kept memory.old) table.old (D.view devices.old).spots }
     requires room { 2 ≤ D.room devices.old }
     ensures kept { is_kept memory.new ≡ is_kept memory.old }
     ensures entries { table.new ≡ table.old }
-    ensures spots { D.spots devices.new ≡ D.spots devices.old }
+    ensures spots { (D.view devices.new).spots ≡ (D.view devices.old).spots }
     ensures room { D.room devices.old ≤ D.room devices.new + 2 }
-    ensures end { record {
-      core = core.new;
-      lists = lists.new;
-      bytes = byte_at memory.new;
-      ports = D.states devices.new;
-      lines = D.lines devices.new;
-      exit = result;
-    }
-        ≡ carried_out
-        (attempt (reached core.old table.old (D.spots devices.old) (D.states devices.old) (byte_at memory.old)) core.old moment.now)
-        lists.old (byte_at memory.old) (D.states devices.old) (D.lines devices.old) }
+    ensures end { Leads (attempt_in table.old moment.now) (step_state core.old lists.old memory.old (D.view devices.old))
+        (step_state core.new lists.new memory.new (D.view devices.new)) result }
 {
     match begin(core, table) {
         Some(exit) => exit,
@@ -210,24 +187,14 @@ fn execute<D: Devices>(
     fetched: &Fetched,
 ) -> Exit
     requires lawful { IsLawful fetched.now.instr }
-    requires contained { IsContained (is_kept memory.old) table.old (D.spots devices.old) }
+    requires contained { IsContained (is_kept memory.old) table.old (D.view devices.old).spots }
     requires room { 2 ≤ D.room devices.old }
     ensures kept { is_kept memory.new ≡ is_kept memory.old }
     ensures entries { table.new ≡ table.old }
-    ensures spots { D.spots devices.new ≡ D.spots devices.old }
+    ensures spots { (D.view devices.new).spots ≡ (D.view devices.old).spots }
     ensures room { D.room devices.old ≤ D.room devices.new + 2 }
-    ensures end { record {
-      core = core.new;
-      lists = lists.new;
-      bytes = byte_at memory.new;
-      ports = D.states devices.new;
-      lines = D.lines devices.new;
-      exit = result;
-    }
-        ≡ carried_out
-        (effect_of (reached core.old table.old (D.spots devices.old) (D.states devices.old) (byte_at memory.old)) core.old
-        fetched.now.moment fetched.now.instr (wanted core.old fetched.now.instr))
-        lists.old (byte_at memory.old) (D.states devices.old) (D.lines devices.old) }
+    ensures end { Leads (executed_in table.old fetched.now) (step_state core.old lists.old memory.old (D.view devices.old))
+        (step_state core.new lists.new memory.new (D.view devices.new)) result }
 {
     match want(core, &fetched.instr) {
         Need::Done => finish(core, fetched),
@@ -263,27 +230,13 @@ fn execute_load<D: Devices>(
     table: &mut Table,
     request: &Request<'_>,
 ) -> Exit
-    requires lawful { IsLawful request.now.fetched.now.instr }
-    requires access { IsAccess request.now.shape.now }
-    requires need { access_asked (wanted core.old request.now.fetched.now.instr) ≡ Some request.now.shape.now }
+    requires asked { IsRequested core.old request.now }
     ensures entries { table.new ≡ table.old }
-    ensures spots { D.spots devices.new ≡ D.spots devices.old }
+    ensures spots { (D.view devices.new).spots ≡ (D.view devices.old).spots }
     ensures room { D.room devices.old ≤ D.room devices.new + 2 }
     ensures end { (lists : List ListRegData)
-        → record {
-          core = core.new;
-          lists = lists;
-          bytes = byte_at memory.now;
-          ports = D.states devices.new;
-          lines = D.lines devices.new;
-          exit = result;
-        }
-        ≡ carried_out
-        (checked core.old request.now.fetched.now.instr request.now.shape.now
-        (load_effect (port_places (D.spots devices.old)) core.old (asked_of request.now)
-        ((reached core.old table.old (D.spots devices.old) (D.states devices.old) (byte_at memory.now)).loaded
-        request.now.shape.now.at request.now.shape.now.width request.now.shape.now.count)))
-        lists (byte_at memory.now) (D.states devices.old) (D.lines devices.old) }
+        → Leads (checked_in (load_in table.old request.now) request.now) (step_state core.old lists memory.now (D.view devices.old))
+        (step_state core.new lists memory.now (D.view devices.new)) result }
 {
     if is_stopped(core, request.shape) {
         // A copy is lent out, so that the request itself needs no place in memory.
@@ -302,25 +255,13 @@ fn take_load<D: Devices>(
     table: &mut Table,
     request: &Request<'_>,
 ) -> Exit
-    requires lawful { IsLawful request.now.fetched.now.instr }
-    requires access { IsAccess request.now.shape.now }
-    requires need { access_asked (wanted core.old request.now.fetched.now.instr) ≡ Some request.now.shape.now }
+    requires asked { IsRequested core.old request.now }
     ensures entries { table.new ≡ table.old }
-    ensures spots { D.spots devices.new ≡ D.spots devices.old }
+    ensures spots { (D.view devices.new).spots ≡ (D.view devices.old).spots }
     ensures room { D.room devices.old ≤ D.room devices.new + 2 }
     ensures end { (lists : List ListRegData)
-        → record {
-          core = core.new;
-          lists = lists;
-          bytes = byte_at memory.now;
-          ports = D.states devices.new;
-          lines = D.lines devices.new;
-          exit = result;
-        }
-        ≡ carried_out
-        (load_judged (reached core.old table.old (D.spots devices.old) (D.states devices.old) (byte_at memory.now)) core.old
-        (asked_of request.now))
-        lists (byte_at memory.now) (D.states devices.old) (D.lines devices.old) }
+        → Leads (load_in table.old request.now) (step_state core.old lists memory.now (D.view devices.old))
+        (step_state core.new lists memory.now (D.view devices.new)) result }
 {
     if is_plain(core, table, devices, Access::Read, request.shape) {
         let got = number_at(memory, request.shape.at, byte_count(request.shape));
@@ -345,25 +286,13 @@ fn judge_load<D: Devices>(
     table: &mut Table,
     request: &Request<'_>,
 ) -> Exit
-    requires lawful { IsLawful request.now.fetched.now.instr }
-    requires access { IsAccess request.now.shape.now }
-    requires need { access_asked (wanted core.old request.now.fetched.now.instr) ≡ Some request.now.shape.now }
+    requires asked { IsRequested core.old request.now }
     ensures entries { table.new ≡ table.old }
-    ensures spots { D.spots devices.new ≡ D.spots devices.old }
+    ensures spots { (D.view devices.new).spots ≡ (D.view devices.old).spots }
     ensures room { D.room devices.old ≤ D.room devices.new + 2 }
     ensures end { (lists : List ListRegData)
-        → record {
-          core = core.new;
-          lists = lists;
-          bytes = byte_at memory.now;
-          ports = D.states devices.new;
-          lines = D.lines devices.new;
-          exit = result;
-        }
-        ≡ carried_out
-        (load_judged (reached core.old table.old (D.spots devices.old) (D.states devices.old) (byte_at memory.now)) core.old
-        (asked_of request.now))
-        lists (byte_at memory.now) (D.states devices.old) (D.lines devices.old) }
+        → Leads (load_in table.old request.now) (step_state core.old lists memory.now (D.view devices.old))
+        (step_state core.new lists memory.now (D.view devices.new)) result }
 {
     match judge(core, table, devices, Access::Read, request.shape) {
         Way::Memory => {
@@ -383,25 +312,12 @@ fn load_port<D: Devices>(
     devices: &mut D,
     request: &Request<'_>,
 ) -> Exit
-    requires lawful { IsLawful request.now.fetched.now.instr }
-    requires access { IsAccess request.now.shape.now }
-    requires need { access_asked (wanted core.old request.now.fetched.now.instr) ≡ Some request.now.shape.now }
-    ensures spots { D.spots devices.new ≡ D.spots devices.old }
+    requires asked { IsRequested core.old request.now }
+    ensures spots { (D.view devices.new).spots ≡ (D.view devices.old).spots }
     ensures room { D.room devices.old ≤ D.room devices.new + 2 }
     ensures end { (lists : List ListRegData)
-        → record {
-          core = core.new;
-          lists = lists;
-          bytes = byte_at memory.now;
-          ports = D.states devices.new;
-          lines = D.lines devices.new;
-          exit = result;
-        }
-        ≡ carried_out
-        (load_effect (port_places (D.spots devices.old)) core.old (asked_of request.now)
-        (Port (elements_value (port_places (D.spots devices.old)) (D.states devices.old) (byte_at memory.now)
-        request.now.shape.now.at request.now.shape.now.width request.now.shape.now.count)))
-        lists (byte_at memory.now) (D.states devices.old) (D.lines devices.old) }
+        → Leads (port_load_in request.now) (step_state core.old lists memory.now (D.view devices.old))
+        (step_state core.new lists memory.now (D.view devices.new)) result }
 {
     if is_misaligned(request.shape) {
         return misalign(core, &request.fetched.instr, request.shape);
@@ -419,30 +335,16 @@ fn execute_store<D: Devices>(
     table: &mut Table,
     request: &Request<'_>,
 ) -> Exit
-    requires lawful { IsLawful request.now.fetched.now.instr }
-    requires access { IsAccess request.now.shape.now }
-    requires need { access_asked (wanted core.old request.now.fetched.now.instr) ≡ Some request.now.shape.now }
-    requires contained { IsContained (is_kept memory.old) table.old (D.spots devices.old) }
+    requires asked { IsRequested core.old request.now }
+    requires contained { IsContained (is_kept memory.old) table.old (D.view devices.old).spots }
     requires room { 2 ≤ D.room devices.old }
     ensures kept { is_kept memory.new ≡ is_kept memory.old }
     ensures entries { table.new ≡ table.old }
-    ensures spots { D.spots devices.new ≡ D.spots devices.old }
+    ensures spots { (D.view devices.new).spots ≡ (D.view devices.old).spots }
     ensures room { D.room devices.old ≤ D.room devices.new + 2 }
     ensures end { (lists : List ListRegData)
-        → record {
-          core = core.new;
-          lists = lists;
-          bytes = byte_at memory.new;
-          ports = D.states devices.new;
-          lines = D.lines devices.new;
-          exit = result;
-        }
-        ≡ carried_out
-        (checked core.old request.now.fetched.now.instr request.now.shape.now
-        (store_effect (port_places (D.spots devices.old)) core.old (asked_of request.now) request.now.value
-        ((reached core.old table.old (D.spots devices.old) (D.states devices.old) (byte_at memory.old)).storable
-        request.now.shape.now.at request.now.shape.now.width request.now.shape.now.count)))
-        lists (byte_at memory.old) (D.states devices.old) (D.lines devices.old) }
+        → Leads (checked_in (store_in table.old request.now) request.now) (step_state core.old lists memory.old (D.view devices.old))
+        (step_state core.new lists memory.new (D.view devices.new)) result }
 {
     if is_stopped(core, request.shape) {
         // A copy is lent out, so that the request itself needs no place in memory.
@@ -461,28 +363,16 @@ fn take_store<D: Devices>(
     table: &mut Table,
     request: &Request<'_>,
 ) -> Exit
-    requires lawful { IsLawful request.now.fetched.now.instr }
-    requires access { IsAccess request.now.shape.now }
-    requires need { access_asked (wanted core.old request.now.fetched.now.instr) ≡ Some request.now.shape.now }
-    requires contained { IsContained (is_kept memory.old) table.old (D.spots devices.old) }
+    requires asked { IsRequested core.old request.now }
+    requires contained { IsContained (is_kept memory.old) table.old (D.view devices.old).spots }
     requires room { 2 ≤ D.room devices.old }
     ensures kept { is_kept memory.new ≡ is_kept memory.old }
     ensures entries { table.new ≡ table.old }
-    ensures spots { D.spots devices.new ≡ D.spots devices.old }
+    ensures spots { (D.view devices.new).spots ≡ (D.view devices.old).spots }
     ensures room { D.room devices.old ≤ D.room devices.new + 2 }
     ensures end { (lists : List ListRegData)
-        → record {
-          core = core.new;
-          lists = lists;
-          bytes = byte_at memory.new;
-          ports = D.states devices.new;
-          lines = D.lines devices.new;
-          exit = result;
-        }
-        ≡ carried_out
-        (store_judged (reached core.old table.old (D.spots devices.old) (D.states devices.old) (byte_at memory.old)) core.old
-        (asked_of request.now) request.now.value)
-        lists (byte_at memory.old) (D.states devices.old) (D.lines devices.old) }
+        → Leads (store_in table.old request.now) (step_state core.old lists memory.old (D.view devices.old))
+        (step_state core.new lists memory.new (D.view devices.new)) result }
 {
     if is_plain(core, table, devices, Access::Write, request.shape) {
         store(
@@ -512,28 +402,16 @@ fn judge_store<D: Devices>(
     table: &mut Table,
     request: &Request<'_>,
 ) -> Exit
-    requires lawful { IsLawful request.now.fetched.now.instr }
-    requires access { IsAccess request.now.shape.now }
-    requires need { access_asked (wanted core.old request.now.fetched.now.instr) ≡ Some request.now.shape.now }
-    requires contained { IsContained (is_kept memory.old) table.old (D.spots devices.old) }
+    requires asked { IsRequested core.old request.now }
+    requires contained { IsContained (is_kept memory.old) table.old (D.view devices.old).spots }
     requires room { 2 ≤ D.room devices.old }
     ensures kept { is_kept memory.new ≡ is_kept memory.old }
     ensures entries { table.new ≡ table.old }
-    ensures spots { D.spots devices.new ≡ D.spots devices.old }
+    ensures spots { (D.view devices.new).spots ≡ (D.view devices.old).spots }
     ensures room { D.room devices.old ≤ D.room devices.new + 2 }
     ensures end { (lists : List ListRegData)
-        → record {
-          core = core.new;
-          lists = lists;
-          bytes = byte_at memory.new;
-          ports = D.states devices.new;
-          lines = D.lines devices.new;
-          exit = result;
-        }
-        ≡ carried_out
-        (store_judged (reached core.old table.old (D.spots devices.old) (D.states devices.old) (byte_at memory.old)) core.old
-        (asked_of request.now) request.now.value)
-        lists (byte_at memory.old) (D.states devices.old) (D.lines devices.old) }
+        → Leads (store_in table.old request.now) (step_state core.old lists memory.old (D.view devices.old))
+        (step_state core.new lists memory.new (D.view devices.new)) result }
 {
     match judge(core, table, devices, Access::Write, request.shape) {
         Way::Memory => {
@@ -558,27 +436,16 @@ fn store_port<D: Devices>(
     devices: &mut D,
     request: &Request<'_>,
 ) -> Exit
-    requires lawful { IsLawful request.now.fetched.now.instr }
-    requires access { IsAccess request.now.shape.now }
-    requires need { access_asked (wanted core.old request.now.fetched.now.instr) ≡ Some request.now.shape.now }
-    requires backed { IsTrue (all_from (is_backed (D.spots devices.old) (is_kept memory.old)) request.now.shape.now.at (bytes_of request.now.shape.now)) }
+    requires asked { IsRequested core.old request.now }
+    requires backed { IsTrue (all_from (is_backed (D.view devices.old).spots (is_kept memory.old))
+        request.now.shape.now.at (bytes_of request.now.shape.now)) }
     requires room { 2 ≤ D.room devices.old }
     ensures kept { is_kept memory.new ≡ is_kept memory.old }
-    ensures spots { D.spots devices.new ≡ D.spots devices.old }
+    ensures spots { (D.view devices.new).spots ≡ (D.view devices.old).spots }
     ensures room { D.room devices.old ≤ D.room devices.new + 2 }
     ensures end { (lists : List ListRegData)
-        → record {
-          core = core.new;
-          lists = lists;
-          bytes = byte_at memory.new;
-          ports = D.states devices.new;
-          lines = D.lines devices.new;
-          exit = result;
-        }
-        ≡ carried_out
-        (store_effect (port_places (D.spots devices.old)) core.old (asked_of request.now) request.now.value
-        (Port 0))
-        lists (byte_at memory.old) (D.states devices.old) (D.lines devices.old) }
+        → Leads (port_store_in request.now) (step_state core.old lists memory.old (D.view devices.old))
+        (step_state core.new lists memory.new (D.view devices.new)) result }
 {
     if is_misaligned(request.shape) {
         return misalign(core, &request.fetched.instr, request.shape);
@@ -614,10 +481,9 @@ fn finish(core: &mut Core, fetched: &Fetched) -> Exit
 fn finish_acknowledge(core: &mut Core, lists: &mut [ListReg; 4], fetched: &Fetched) -> Exit
     requires lawful { IsLawful fetched.now.instr }
     requires need { wanted core.old fetched.now.instr ≡ Need.Acknowledge }
-    ensures { (bytes : ℕ → ℕ) (ports : PortStates) (lines : LinesData)
-        → record { core = core.new; lists = lists.new; bytes = bytes; ports = ports; lines = lines; exit = result }
-        ≡ carried_out (record (ran (finished core.old fetched.now.moment fetched.now.instr 0)) { outcome = Acknowledged })
-        lists.old bytes ports lines }
+    ensures { (memory : BanksData) (devices : DevicesData)
+        → Leads (λ state. record (ran (finished state.core fetched.now.moment fetched.now.instr 0)) { outcome = Acknowledged })
+        (step_state core.old lists.old memory devices) (step_state core.new lists.new memory devices) result }
 {
     complete(core, fetched.moment, &fetched.instr);
     acknowledge(&mut core.iface, lists);
@@ -629,10 +495,9 @@ fn finish_acknowledge(core: &mut Core, lists: &mut [ListReg; 4], fetched: &Fetch
 fn finish_end(core: &mut Core, lists: &mut [ListReg; 4], fetched: &Fetched, id: u16) -> Exit
     requires lawful { IsLawful fetched.now.instr }
     requires need { wanted core.old fetched.now.instr ≡ Need.End id }
-    ensures { (bytes : ℕ → ℕ) (ports : PortStates) (lines : LinesData)
-        → record { core = core.new; lists = lists.new; bytes = bytes; ports = ports; lines = lines; exit = result }
-        ≡ carried_out (record (ran (finished core.old fetched.now.moment fetched.now.instr 0)) { outcome = Ended id })
-        lists.old bytes ports lines }
+    ensures { (memory : BanksData) (devices : DevicesData)
+        → Leads (λ state. record (ran (finished state.core fetched.now.moment fetched.now.instr 0)) { outcome = Ended id })
+        (step_state core.old lists.old memory devices) (step_state core.new lists.new memory devices) result }
 {
     complete(core, fetched.moment, &fetched.instr);
     if end(&mut core.iface, lists, id) {
@@ -645,8 +510,7 @@ fn finish_end(core: &mut Core, lists: &mut [ListReg; 4], fetched: &Fetched, id: 
 /// Completes an instruction whose access was carried out.
 #[inline(always)]
 fn finish_access(core: &mut Core, request: &Request<'_>, got: u128) -> Exit
-    requires lawful { IsLawful request.now.fetched.now.instr }
-    requires need { access_asked (wanted core.old request.now.fetched.now.instr) ≡ Some request.now.shape.now }
+    requires asked { IsRequested core.old request.now }
     ensures core { core.new ≡ finished core.old request.now.fetched.now.moment request.now.fetched.now.instr got }
     ensures exit { result ≡ Exit.Ran }
 {

@@ -10,7 +10,7 @@ pub returns : goal.returns
 returns c =
     let core = c.args.core.now in let instr = c.args.instr.now in let shape = c.args.shape.now in
     let sp : is_sp_misaligned core shape ≡ false = search rules in
-    λ judged lists bytes ports lines. c.misalign.ensures lists bytes ports lines
-    ∙ ap (λ effect. carried_out effect lists bytes ports lines)
+    λ judged before. c.misalign.ensures before
+    ∙ ap (λ effect. carried_out effect before)
     (stopped_start (is_sp_misaligned core shape) (checks_alignment core && is_misaligned shape)
     (raised core (bare_syndrome SpAlignment) None core.pc) (misaligned core instr shape) judged c.requires.stopped sp)

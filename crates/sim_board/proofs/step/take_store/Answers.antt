@@ -12,5 +12,5 @@ pub store-requires-clause-used : goal.store-requires-clause-used
 store-requires-clause-used g c =
     let shape = c.args.request.now.shape.now in let kept = is_kept c.args.memory.now in
     subst (λ n. IsTrue (all_from kept shape.at n)) (sym c.byte_count.ensures.value)
-    (kept_in_memory (by_regions c.args.core.now) (by_entries c.args.table.now) (g.D.Devices.spots c.args.devices.now) kept
+    (kept_in_memory (by_regions c.args.core.now) (by_entries c.args.table.now) (g.D.Devices.view c.args.devices.now).spots kept
     c.requires.contained shape.at (bytes_of shape) (OnTrue_at c.if-is_plain.true c.is_plain.ensures))
