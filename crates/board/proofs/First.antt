@@ -1,6 +1,6 @@
 -- The first fault of an access is of its first refused byte.
-use Rattle.std.proofs.Common.{◌≡◌, ℕ, zero, suc, ◌<◌, Bool, true, false, refl, sym, ap, subst, ◌∙◌, arith}
-use Rattle.std.specs.Prelude.{IsTrue, IsFalse, ◌&&◌, if◌then◌else◌, Option, None, Some}
+use Rattle.std.proofs.Common.{◌≡◌, ℕ, zero, suc, Bool, true, false, refl, sym, ap, ◌∙◌, arith}
+use Rattle.std.specs.Prelude.{IsTrue, IsFalse, ◌&&◌, Option, None, Some}
 use Rattle.bao_types.specs.Bytes.{next_address}
 use Rattle.bao_types.specs.declared.access.Access.{Access}
 use Rattle.bao_types.specs.declared.access.Verdict.{Verdict}
@@ -8,13 +8,17 @@ use Rattle.bao_types.specs.declared.access.Verdict.TheVariants.{Allow, Translati
 use Rattle.board.specs.declared.judged.Fault.{Fault}
 use Rattle.board.specs.Stage.{Stage, is_allowed, both}
 use Rattle.board.specs.Judge.{all_from, fault_or, first_fault}
-use Rattle.board.specs.First.{AreAllowed, IsFirstFault, Judges, FaultsAreFirst, refusing}
+use Rattle.board.specs.First.{AccessedBytes, IsFirstFault, Judges, FaultsAreFirst, refusing}
+
+-- bytes by their parts
+abbrev pub run : Access → ℕ → ℕ → AccessedBytes
+run access at n = record { access = access; at = at; count = n }
 
 module _ (one two : Stage) (access : Access) (at n : ℕ) where
   -- a fault of the byte at the start
   here : (stage2 : Bool) (verdict : Verdict) → verdict ≡ refusing one two stage2 access at → IsFalse (is_allowed verdict)
       → (IsTrue stage2 → IsTrue (is_allowed (one access at)))
-      → IsFirstFault one two access at (suc n) (record { stage2 = stage2; verdict = verdict; at = at })
+      → IsFirstFault one two (run access at (suc n)) (record { stage2 = stage2; verdict = verdict; at = at })
   here stage2 verdict is refused first = record {
     number = 0;
     within = omega arith;
@@ -22,7 +26,7 @@ module _ (one two : Stage) (access : Access) (at n : ℕ) where
     before = refl;
     verdict = is;
     refused = refused;
-    behind_first = first;
+    after_first = first;
   }
 
   -- both stages allow it
@@ -33,9 +37,9 @@ module _ (one two : Stage) (access : Access) (at n : ℕ) where
   join true rest first second = second
   join false rest first second = cc
 
-  -- what is said of the bytes behind it is then said of all
-  later : (rest : Option Fault) → one access at ≡ Allow → two access at ≡ Allow → Judges one two access (next_address at) n rest
-      → Judges one two access at (suc n) rest
+  -- what is said of the bytes after it is then said of all
+  later : (rest : Option Fault) → one access at ≡ Allow → two access at ≡ Allow → Judges one two (run access (next_address at) n) rest
+      → Judges one two (run access at (suc n)) rest
   later None first second all =
       join (is_allowed (both one two access at)) (all_from (λ byte. is_allowed (both one two access byte)) (next_address at) n)
       (allowed first second) all
@@ -48,11 +52,11 @@ module _ (one two : Stage) (access : Access) (at n : ℕ) where
         (all_from (λ byte. is_allowed (both one two access byte)) (next_address at) is.number) (allowed first second) is.before;
     verdict = is.verdict;
     refused = is.refused;
-    behind_first = is.behind_first;
+    after_first = is.after_first;
   }
 
   by_second : (v w : Verdict) → one access at ≡ v → two access at ≡ w → v ≡ Allow → (rest : Option Fault)
-      → Judges one two access (next_address at) n rest → Judges one two access at (suc n) (fault_or true w at rest)
+      → Judges one two (run access (next_address at) n) rest → Judges one two (run access at (suc n)) (fault_or true w at rest)
   by_second v Allow first second is rest judged = later rest (first ∙ is) second judged
   by_second v Translation first second is rest judged =
       here true Translation (sym second) refl (λ any. ap is_allowed (first ∙ is))
@@ -60,14 +64,17 @@ module _ (one two : Stage) (access : Access) (at n : ℕ) where
       here true Permission (sym second) refl (λ any. ap is_allowed (first ∙ is))
 
   by_first : (v w : Verdict) → one access at ≡ v → two access at ≡ w → (rest : Option Fault)
-      → Judges one two access (next_address at) n rest
-      → Judges one two access at (suc n) (fault_or false v at (fault_or true w at rest))
+      → Judges one two (run access (next_address at) n) rest
+      → Judges one two (run access at (suc n)) (fault_or false v at (fault_or true w at rest))
   by_first Allow w first second rest judged = by_second Allow w first second refl rest judged
   by_first Translation w first second rest judged = here false Translation (sym first) refl (λ is. cc)
   by_first Permission w first second rest judged = here false Permission (sym first) refl (λ is. cc)
 
-pub faults_are_first : FaultsAreFirst
-faults_are_first one two access at zero = refl
-faults_are_first one two access at (suc n) =
+judges : (one two : Stage) (access : Access) (at n : ℕ) → Judges one two (run access at n) (first_fault one two access at n)
+judges one two access at zero = refl
+judges one two access at (suc n) =
     by_first one two access at n (one access at) (two access at) refl refl (first_fault one two access (next_address at) n)
-    (faults_are_first one two access (next_address at) n)
+    (judges one two access (next_address at) n)
+
+pub faults_are_first : FaultsAreFirst
+faults_are_first one two bytes = judges one two bytes.access bytes.at bytes.count

@@ -1,6 +1,6 @@
 -- What a step can disturb and observe.
 use Rattle.std.proofs.Common.{◌≡◌, ℕ, zero, suc, ◌+◌, ◌*◌, ◌/◌, ◌%◌, ◌^◌, ◌≤◌, Bool, true, false, List, [], ◌∷◌, ◌++◌, refl, sym, ap, subst, ◌∙◌, inl, inr, arith}
-use Rattle.std.specs.Prelude.{IsTrue, IsFalse, ◌&&◌, ◌||◌, ◌⊎◌, ◌==◌, not, if◌then◌else◌, Option, None, Some}
+use Rattle.std.specs.Prelude.{IsTrue, IsFalse, ◌&&◌, ◌||◌, ◌==◌, if◌then◌else◌, Option, None, Some}
 use Rattle.std.proofs.lemmas.Bool.Decides.{nat_tests}
 use Rattle.std.proofs.Math.Nat.{mul-suc}
 use Rattle.bao_types.specs.Bytes.{IsWidth, bytes_from, little_endian, next_address}
@@ -26,12 +26,16 @@ use Rattle.ports.specs.Registers.{after_read, after_write, line_of_write, value_
 use Rattle.board.specs.declared.judged.Fault.{Fault}
 use Rattle.board.specs.declared.judged.Judged.{Judged}
 use Rattle.board.specs.declared.judged.Judged.TheVariants.{Memory, Port, Refused}
-use Rattle.board.specs.Ports.{Places, PortStates, PortByte, PortAccess, ReadPort, WritePort, accessed, all_accessed, address_from, element_read, element_stored, element_value, element_written, elements_read, elements_stored, elements_value, elements_written, is_port, number_at, raises_line, stores_from, with_port}
+use Rattle.board.specs.Ports.{Places, PortStates, PortByte, PortAccess, ReadPort, WritePort, Source, accessed, all_accessed, address_from, element_read, element_stored, element_value, element_written, elements_read, elements_stored, elements_value, elements_written, number_at, raises_line, stores_from, with_port}
 use Rattle.board.specs.Stage.{Stage, is_allowed, both}
-use Rattle.board.specs.Judge.{all_from, fault_or, first_fault, fault_else, has_no_port, Reach, reach_of}
+use Rattle.board.specs.Judge.{all_from, fault_or, first_fault, fault_else, has_no_port, reach_of}
 use Rattle.board.specs.Attempt.{Effect, ran, raised, fetch_aborted, data_aborted, bare_syndrome, alignment_code, code_of, checks_alignment, is_misaligned, is_sp_misaligned, misaligned, at_port, checked, load_effect, store_effect, effect_of, word_effect, fetch_effect, attempt, takes_irq, step_effect}
 use Rattle.board.specs.Machine.{with_byte, written}
-use Rattle.board.specs.Reached.{DisturbsNothingElse, AreAlike, ArePortsAlike, LeavesTheRest, ObservesNothingElse, ReachesPort}
+use Rattle.board.specs.Reached.{DisturbsNothingElse, AreAlike, ArePortsAlike, ObservesNothingElse, ReachesPort}
+
+-- what elements are read from, by its parts
+abbrev pub source : Places → PortStates → (ℕ → ℕ) → Source
+source places states bytes = record { places = places; states = states; bytes = bytes }
 
 -- each stored byte passes a test
 unfoldable pub AllStored : (ℕ → Bool) → List (ℕ × ℕ) → Type 0
@@ -94,7 +98,7 @@ from_place test place (suc n) value all =
     let first = split (test place) (all_from test (next_address place) n) all in
     (first.0, from_place test (next_address place) n (value / 256) first.1)
 
--- what all of some bytes pass, the first of them do, and those behind these
+-- what all of some bytes pass, the first of them do, and those after these
 pub first_bytes : (test : ℕ → Bool) (m n total at : ℕ) → total ≡ m + n → IsTrue (all_from test at total) → IsTrue (all_from test at m)
 first_bytes test zero n total at is all = refl
 first_bytes test (suc m) n total at is all =
@@ -139,7 +143,7 @@ both_allow Allow two first second = second
 both_allow Translation two first second = cc
 both_allow Permission two first second = cc
 
--- what the second stage lets an access reach behind the first, it lets it reach
+-- what the second stage lets an access reach after the first, it lets it reach
 second_of : (one two : Verdict) → IsTrue (is_allowed (if is_allowed one then two else one)) → IsTrue (is_allowed two)
 second_of Allow two h = h
 second_of Translation two h = cc
@@ -327,7 +331,7 @@ module _ (one two : Stage) (places : Places) (states : PortStates) (bytes : ℕ 
       by_checks instr shape _
       (by_load instr shape (some_bytes shape.width (asked_width core instr shape (ap access_asked is)))
       (first_fault one two Read shape.at (bytes_of shape)) (has_no_port places shape.at (bytes_of shape))
-      (number_at bytes shape.at (bytes_of shape)) (elements_value places states bytes shape.at shape.width shape.count) refl)
+      (number_at bytes shape.at (bytes_of shape)) (elements_value (source places states bytes) shape.at shape.width shape.count) refl)
   by_need instr (need.Store shape value) is =
       by_checks instr shape _
       (by_store instr shape value (some_bytes shape.width (asked_width core instr shape (ap access_asked is)))
@@ -520,13 +524,14 @@ module _ (stage : Stage) (places : Places) (left right : ℕ → ℕ) (alike : A
 
   pub elements_alike : (width : ℕ) → 1 ≤ width → (n total at : ℕ) → total ≡ width * n
       → IsTrue (all_from (λ b. is_allowed (stage Read b)) at total) → (states others : PortStates) → ArePortsAlike stage places states others
-      → elements_value places states left at width n ≡ elements_value places others right at width n
+      → elements_value (source places states left) at width n ≡ elements_value (source places others right) at width n
   elements_alike width some zero total at is all states others same = refl
   elements_alike width some (suc n) total at is all states others same =
       let more = one_more width n total is in
       let here = first_bytes (λ b. is_allowed (stage Read b)) width (width * n) total at more all in
       let first = first_byte (λ b. is_allowed (stage Read b)) at width some here in
-      ap (λ x. x + 256 ^ width * elements_value places (all_accessed (element_read (places at) width) states) left (address_from at width) width n)
+      ap (λ x. x
+      + 256 ^ width * elements_value (source places (all_accessed (element_read (places at) width) states) left) (address_from at width) width n)
       (element_alike states others same (places at) at width refl some here)
       ∙ ap (λ x. element_value others right (places at) at width + 256 ^ width * x)
       (elements_alike width some n (width * n) (address_from at width) refl
@@ -551,8 +556,8 @@ module _ (one two : Stage) (places : Places) (states others : PortStates) (left 
 
   load_by : (at width count : ℕ) (fault : Option Fault) (free : Bool) → first_fault one two Read at (width * count) ≡ fault
       → has_no_port places at (width * count) ≡ free
-      → fault_else fault (if free then Memory (number_at left at (width * count)) else Port (elements_value places states left at width count))
-      ≡ fault_else fault (if free then Memory (number_at right at (width * count)) else Port (elements_value places others right at width count))
+      → fault_else fault (if free then Memory (number_at left at (width * count)) else Port (elements_value (source places states left) at width count))
+      ≡ fault_else fault (if free then Memory (number_at right at (width * count)) else Port (elements_value (source places others right) at width count))
   load_by at width count None true none free =
       ap Memory (read_alike (both one two) places left right alike at (width * count) (allowed_all one two Read at (width * count) none))
   load_by at width count None false none port =

@@ -54,7 +54,7 @@ reach_of one two places states bytes =
       fetched = λ at. fault_else (first_fault one two Exec at 4) (Memory (number_at bytes at 4));
       loaded = λ at width count. fault_else (first_fault one two Read at (width * count))
           (if has_no_port places at (width * count) then Memory (number_at bytes at (width * count))
-          else Port (elements_value places states bytes at width count));
+          else Port (elements_value (record { places = places; states = states; bytes = bytes }) at width count));
       storable = λ at width count. fault_else (first_fault one two Write at (width * count))
           (if has_no_port places at (width * count) then Memory 0 else Port 0);
       places = places;

@@ -103,7 +103,7 @@ abbrev pub stores_from : ℕ → ℕ → ℕ → List (ℕ × ℕ)
 stores_from at zero value = []
 stores_from at (suc n) value = (at, value % 256) ∷ stores_from (next_address at) n (value / 256)
 
--- the address that stands so many bytes behind another
+-- the address that stands so many bytes after another
 abbrev pub address_from : ℕ → ℕ → ℕ
 address_from at zero = at
 address_from at (suc k) = address_from (next_address at) k
@@ -126,13 +126,23 @@ abbrev pub element_stored : Option PortByte → ℕ → ℕ → ℕ → List (�
 element_stored None at width value = stores_from at width value
 element_stored (Some byte) at width value = []
 
+-- what elements are read from: where the ports stand and what they keep, and the bytes of memory
+pub record Source : Type 0 where
+  pub places : Places
+  pub states : PortStates
+  pub bytes : ℕ → ℕ
+
+-- once its ports were accessed so
+abbrev pub source_after : List PortAccess → Source → Source
+source_after accesses source = record source { states = all_accessed accesses source.states }
+
 -- Elements of one width, so many, one after the other: the number that they read, the first of them lowest, each from the
 -- ports as those before it left them; what reading them does to the ports; and of writing them with the parts of a value.
-abbrev pub elements_value : Places → PortStates → (ℕ → ℕ) → ℕ → ℕ → ℕ → ℕ
-elements_value places states bytes at width zero = 0
-elements_value places states bytes at width (suc n) =
-    element_value states bytes (places at) at width
-    + 256 ^ width * elements_value places (all_accessed (element_read (places at) width) states) bytes (address_from at width) width n
+abbrev pub elements_value : Source → ℕ → ℕ → ℕ → ℕ
+elements_value source at width zero = 0
+elements_value source at width (suc n) =
+    element_value source.states source.bytes (source.places at) at width
+    + 256 ^ width * elements_value (source_after (element_read (source.places at) width) source) (address_from at width) width n
 
 abbrev pub elements_read : Places → ℕ → ℕ → ℕ → List PortAccess
 elements_read places at width zero = []

@@ -1,10 +1,10 @@
 -- What a step can disturb and what it can observe: laws of `step_effect`, by which machine and model make each step.
-use Rattle.std.specs.Prelude.{◌≡◌, ℕ, Bool, ◌⊎◌, ◌||◌, IsTrue, IsFalse, Some}
+use Rattle.std.specs.Prelude.{◌≡◌, ℕ, ◌⊎◌, ◌||◌, IsTrue, IsFalse, Some}
 use Rattle.bao_types.specs.declared.access.Access.TheVariants.{Read, Write, Exec}
 use Rattle.a64_state.specs.Core.{CoreData}
 use Rattle.a64_sysreg.specs.declared.moment.Moment.{Moment}
 use Rattle.board.specs.Stage.{Stage, both, is_allowed}
-use Rattle.board.specs.Ports.{Places, PortStates, PortByte, all_accessed, raises_line}
+use Rattle.board.specs.Ports.{Places, PortStates, all_accessed, raises_line}
 use Rattle.board.specs.Judge.{reach_of}
 use Rattle.board.specs.Attempt.{Effect, step_effect}
 use Rattle.board.specs.Machine.{written}

@@ -27,6 +27,6 @@ is_allowed Allow = true
 is_allowed Translation = false
 is_allowed Permission = false
 
--- the second stage behind the first, as one: it is asked of what the first allows
+-- the second stage after the first, as one: it is asked of what the first allows
 abbrev pub both : Stage → Stage → Stage
 both one two access at = if is_allowed (one access at) then two access at else one access at

@@ -17,8 +17,8 @@ pub enum Exit {
     /// An interrupt line is raised for the core, and EL2 is to take it ([`Board::ack`]). Nothing has changed but what the core's
     /// timer made of its line.
     Irq,
-    /// An exception goes to EL2: a call, or an abort that stage 2 makes. HVC leaves PC behind itself, all else leaves it at
-    /// the instruction; the other registers and memory are as before.
+    /// An exception goes to EL2: a call, or an abort that stage 2 makes. HVC leaves PC at the next instruction, all else
+    /// leaves it at the instruction; the other registers and memory are as before.
     Sync {
         /// The syndrome, as ESR_EL2 has it.
         esr: u64,
@@ -106,7 +106,7 @@ pub trait Board {
         requires register { n < 31 }
         ensures { state self.new ≡ with_core (state self.old) core (with_x (core_at (state self.old).cores core) n value) };
 
-    /// Lets a core go on behind the instruction at its PC.
+    /// Lets a core go on after the instruction at its PC.
     fn skip(&mut self, core: u8)
         requires fitted { (state self.old).fitted ≡ true }
         requires core { core < length (state self.old).shape.cores }
