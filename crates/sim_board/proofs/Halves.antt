@@ -1,4 +1,4 @@
--- The bytes of an access in two parts, the second one behind the first.
+-- The bytes of an access in two parts, the second one after the first.
 use Rattle.std.proofs.Common.{◌≡◌, ℕ, zero, suc, ◌+◌, ◌-◌, ◌*◌, ◌/◌, ◌%◌, ◌^◌, ◌<◌, ◌≤◌, ◌⊎◌, inl, inr, Bool, true, false, ◌∷◌, refl, sym, ap, ◌∙◌, arith, lit<}
 use Rattle.std.specs.Prelude.{IsTrue, ◌&&◌}
 use Rattle.std.proofs.Math.Nat.{div-div-eq-div-mul, mul_assoc, pow-le-pow_right, pow-suc, pow-succ'}
@@ -14,9 +14,9 @@ abbrev shifted : ℕ → ℕ → ℕ
 shifted zero value = value
 shifted (suc m) value = shifted m (value / 256)
 
--- the address behind the first part
-behind : (at m : ℕ) → (next_address at + m) % 2 ^ 64 ≡ (at + suc m) % 2 ^ 64
-behind at m = omega arith
+-- the address after the first part
+after : (at m : ℕ) → (next_address at + m) % 2 ^ 64 ≡ (at + suc m) % 2 ^ 64
+after at m = omega arith
 
 -- a number is the first part and, above it, the second
 pub number_split : (bytes : ℕ → ℕ) (m n total at : ℕ) → total ≡ m + n → at < 2 ^ 64
@@ -32,7 +32,7 @@ number_split bytes (suc m) n total at is low =
     let upper = number_at bytes ((next + m) % 2 ^ 64) n in
     let power : 256 ^ suc m * upper ≡ 256 * (256 ^ m * upper) =
     ap (λ p. p * upper) (pow-succ' 256 m) ∙ mul_assoc 256 (256 ^ m) upper in
-    let same : number_at bytes ((at + suc m) % 2 ^ 64) n ≡ upper = ap (λ a. number_at bytes a n) (sym (behind at m)) in
+    let same : number_at bytes ((at + suc m) % 2 ^ 64) n ≡ upper = ap (λ a. number_at bytes a n) (sym (after at m)) in
     ap (λ t. number_at bytes at t) more
     ∙ omega (arith, rest, power)
     ∙ ap (λ u. number_at bytes at (suc m) + 256 ^ suc m * u) (sym same)
@@ -62,7 +62,7 @@ second_part test zero n total at is low all =
     ap (λ a. all_from test a n) here ∙ sym (ap (λ t. all_from test at t) none) ∙ all
 second_part test (suc m) n total at is low all =
     let more : total ≡ suc (m + n) = omega (arith, is) in
-    sym (ap (λ a. all_from test a n) (behind at m))
+    sym (ap (λ a. all_from test a n) (after at m))
     ∙ second_part test m n (m + n) (next_address at) refl (omega arith)
     (second (test at) (all_from test (next_address at) (m + n)) (sym (ap (λ t. all_from test at t) more) ∙ all))
 
@@ -77,7 +77,7 @@ stores_parts (suc m) n total at value old is low =
     let more : total ≡ suc (m + n) = omega (arith, is) in
     ap (λ t. written (stores_from at t value) old) more
     ∙ stores_parts m n (m + n) (next_address at) (value / 256) (with_byte at (value % 256) old) refl (omega arith)
-    ∙ ap (λ a. written (stores_from a n (shifted (suc m) value)) (written (stores_from at (suc m) value) old)) (behind at m)
+    ∙ ap (λ a. written (stores_from a n (shifted (suc m) value)) (written (stores_from at (suc m) value) old)) (after at m)
 
 shifted_is : (m value : ℕ) → shifted m value ≡ value / 256 ^ m
 shifted_is zero value = omega arith

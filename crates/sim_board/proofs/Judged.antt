@@ -1,4 +1,4 @@
--- Accesses judged by two stages: one byte behind the other, by the second alone where the first is off, and in a gap between
+-- Accesses judged by two stages: one byte after the other, by the second alone where the first is off, and in a gap between
 -- the ports.
 use Rattle.std.proofs.Common.{◌≡◌, ℕ, zero, suc, ◌+◌, ◌^◌, ◌<◌, ◌≤◌, Bool, true, false, refl, sym, ap, ◌∙◌, arith}
 use Rattle.std.specs.Prelude.{not, if◌then◌else◌, Option, None, Some}

@@ -1,4 +1,4 @@
--- Tests of the bytes of an access, one behind the other from an address on.
+-- Tests of the bytes of an access, one after the other from an address on.
 use Rattle.std.proofs.Common.{ℕ, zero, suc, Bool, true, false, List, refl}
 use Rattle.std.specs.Prelude.{IsTrue, ◌&&◌, ◌||◌, not}
 use Rattle.bao_types.specs.declared.shape.PortSpot.{PortSpot}

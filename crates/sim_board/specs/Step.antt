@@ -19,7 +19,7 @@ use Rattle.board.specs.Judge.{Reach}
 use Rattle.board.specs.Machine.{written}
 use Rattle.board.specs.Ports.{PortStates, all_accessed, elements_value, number_at}
 use Rattle.phys_bank.specs.Banks.{BanksData, byte_at}
-use Rattle.sim_board.specs.Devices.{DevicesData, places_in}
+use Rattle.sim_board.specs.Devices.{DevicesData, places_in, source_in}
 use Rattle.sim_board.specs.Reached.{reached}
 use Rattle.sim_board.specs.declared.access.Way.{Way}
 use Rattle.sim_board.specs.declared.access.Way.TheVariants as way
@@ -145,7 +145,7 @@ abbrev pub port_load_in : Request → StepState → Effect
 port_load_in request state =
     let shape : MemShape = request.shape.now in
     load_effect (places_in state.devices) state.core (asked_of request)
-    (Port (elements_value (places_in state.devices) state.devices.ports state.bytes shape.at shape.width shape.count))
+    (Port (elements_value (source_in state.bytes state.devices) shape.at shape.width shape.count))
 
 abbrev pub port_store_in : Request → StepState → Effect
 port_store_in request state = store_effect (places_in state.devices) state.core (asked_of request) request.value (Port 0)

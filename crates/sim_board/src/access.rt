@@ -6,11 +6,10 @@ ghost use Rattle.a64_execute.specs.Want.{bytes_of, IsAccess};
 ghost use Rattle.board.specs.Stage.{by_entries, by_regions};
 ghost use Rattle.board.specs.Judge.{all_from, first_fault, has_no_port};
 ghost use Rattle.board.specs.Attempt.{is_misaligned};
-ghost use Rattle.board.specs.Interrupts.{lines_accessed};
 ghost use Rattle.board.specs.Machine.{written};
-ghost use Rattle.board.specs.Ports.{all_accessed, element_read, element_stored, element_value, element_written, elements_read, elements_stored, elements_value, elements_written};
+ghost use Rattle.board.specs.Ports.{element_read, element_stored, element_value, element_written, elements_read, elements_stored, elements_value, elements_written};
 ghost use Rattle.phys_bank.specs.Banks.{byte_at, is_kept};
-ghost use Rattle.sim_board.specs.Devices.{is_backed, places_in};
+ghost use Rattle.sim_board.specs.Devices.{AreAccessed, is_backed, places_in, source_in};
 ghost use Rattle.sim_board.specs.Memory.{IsSpanned};
 ghost use Rattle.sim_board.specs.declared.access.Way.TheVariants as way;
 ghost use Rattle.sim_board.specs.Step.{way_of};
@@ -107,23 +106,17 @@ pub(crate) fn byte_count(shape: &MemShape) -> u32
 pub(crate) fn read_elements<D: Devices>(memory: &Banks, devices: &mut D, shape: &MemShape) -> u128
     requires access { IsAccess shape.now }
     requires aligned { is_misaligned shape.now ≡ false }
-    ensures value { result ≡ elements_value (places_in (D.view devices.old)) (D.view devices.old).ports (byte_at memory.now)
-        shape.now.at shape.now.width shape.now.count }
-    ensures states { (D.view devices.new).ports
-        ≡ all_accessed (elements_read (places_in (D.view devices.old)) shape.now.at shape.now.width shape.now.count)
-        (D.view devices.old).ports }
-    ensures lines { (D.view devices.new).lines
-        ≡ lines_accessed (elements_read (places_in (D.view devices.old)) shape.now.at shape.now.width shape.now.count)
-        (D.view devices.old).ports (D.view devices.old).lines }
+    ensures value { result
+        ≡ elements_value (source_in (byte_at memory.now) (D.view devices.old)) shape.now.at shape.now.width shape.now.count }
+    ensures accessed { AreAccessed (λ places. elements_read places shape.now.at shape.now.width shape.now.count) (D.view devices.old) (D.view devices.new) }
     ensures room { D.room devices.new ≡ D.room devices.old }
-    ensures spots { (D.view devices.new).spots ≡ (D.view devices.old).spots }
 {
     let first = read_element(memory, devices, shape.at, shape.width);
     if shape.count == 1 {
         return u128::from(first);
     }
-    let behind = shape.at.wrapping_add(u64::from(shape.width));
-    let second = read_element(memory, devices, behind, shape.width);
+    let next = shape.at.wrapping_add(u64::from(shape.width));
+    let second = read_element(memory, devices, next, shape.width);
     u128::from(second) * weight_after(shape.width) + u128::from(first)
 }
 
@@ -133,12 +126,8 @@ fn read_element<D: Devices>(memory: &Banks, devices: &mut D, at: u64, width: u32
     requires aligned { at % width ≡ 0 }
     ensures value { result
         ≡ element_value (D.view devices.old).ports (byte_at memory.now) (places_in (D.view devices.old) at) at width }
-    ensures states { (D.view devices.new).ports
-        ≡ all_accessed (element_read (places_in (D.view devices.old) at) width) (D.view devices.old).ports }
-    ensures lines { (D.view devices.new).lines
-        ≡ lines_accessed (element_read (places_in (D.view devices.old) at) width) (D.view devices.old).ports (D.view devices.old).lines }
+    ensures accessed { AreAccessed (λ places. element_read (places at) width) (D.view devices.old) (D.view devices.new) }
     ensures room { D.room devices.new ≡ D.room devices.old }
-    ensures spots { (D.view devices.new).spots ≡ (D.view devices.old).spots }
 {
     match devices.read(at, width) {
         Some(got) => got,
@@ -162,22 +151,16 @@ pub(crate) fn write_elements<D: Devices>(
     ensures bytes { byte_at memory.new
         ≡ written (elements_stored (places_in (D.view devices.old)) shape.now.at shape.now.width shape.now.count value)
         (byte_at memory.old) }
-    ensures states { (D.view devices.new).ports
-        ≡ all_accessed (elements_written (places_in (D.view devices.old)) shape.now.at shape.now.width shape.now.count value)
-        (D.view devices.old).ports }
-    ensures lines { (D.view devices.new).lines
-        ≡ lines_accessed (elements_written (places_in (D.view devices.old)) shape.now.at shape.now.width shape.now.count value)
-        (D.view devices.old).ports (D.view devices.old).lines }
+    ensures accessed { AreAccessed (λ places. elements_written places shape.now.at shape.now.width shape.now.count value) (D.view devices.old) (D.view devices.new) }
     ensures room { D.room devices.old ≤ D.room devices.new + 2 }
-    ensures spots { (D.view devices.new).spots ≡ (D.view devices.old).spots }
 {
     write_element(memory, devices, shape.at, shape.width, value);
     if shape.count == 2 {
-        let behind = shape.at.wrapping_add(u64::from(shape.width));
+        let next = shape.at.wrapping_add(u64::from(shape.width));
         write_element(
             memory,
             devices,
-            behind,
+            next,
             shape.width,
             value / weight_after(shape.width),
         );
@@ -193,13 +176,8 @@ fn write_element<D: Devices>(memory: &mut Banks, devices: &mut D, at: u64, width
     ensures kept { is_kept memory.new ≡ is_kept memory.old }
     ensures bytes { byte_at memory.new
         ≡ written (element_stored (places_in (D.view devices.old) at) at width value) (byte_at memory.old) }
-    ensures states { (D.view devices.new).ports
-        ≡ all_accessed (element_written (places_in (D.view devices.old) at) width value) (D.view devices.old).ports }
-    ensures lines { (D.view devices.new).lines
-        ≡ lines_accessed (element_written (places_in (D.view devices.old) at) width value)
-        (D.view devices.old).ports (D.view devices.old).lines }
+    ensures accessed { AreAccessed (λ places. element_written (places at) width value) (D.view devices.old) (D.view devices.new) }
     ensures room { D.room devices.old ≤ D.room devices.new + 1 }
-    ensures spots { (D.view devices.new).spots ≡ (D.view devices.old).spots }
 {
     if !devices.write(at, width, value) {
         store(memory, at, width, value);

@@ -6,11 +6,11 @@ ghost use Rattle.bao_types.specs.Shape.{event_limit, port_size};
 ghost use Rattle.ports.specs.PortState.{byte_count, output_of};
 ghost use Rattle.ports.specs.Registers.{after_input, after_read, after_write, line_of_input, line_of_write, value_read};
 ghost use Rattle.gic_core.specs.Lines.{quiet_lines};
-ghost use Rattle.board.specs.Interrupts.{lines_accessed, lines_given, with_port_if};
+ghost use Rattle.board.specs.Interrupts.{lines_given, with_port_if};
 ghost use Rattle.board.specs.Judge.{has_no_port};
 ghost use Rattle.board.specs.Machine.{port_places};
-ghost use Rattle.board.specs.Ports.{all_accessed, element_read, element_written, is_port, outputs, port_count, with_port};
-ghost use Rattle.sim_board.specs.Devices.{DevicesData, least_room, places_in, states_of};
+ghost use Rattle.board.specs.Ports.{element_read, element_written, is_port, outputs, port_count, with_port};
+ghost use Rattle.sim_board.specs.Devices.{AreAccessed, DevicesData, least_room, places_in, states_of};
 ghost use Rattle.sim_board.specs.Gap.{IsGap};
 
 use crate::gap::Gap;
@@ -39,12 +39,8 @@ pub(crate) trait Devices {
         requires aligned { at % width ≡ 0 }
         ensures value { result ≡ option_map (λ byte. value_read ((view self.old).ports byte.port) byte.offset width)
             (places_in (view self.old) at) }
-        ensures states { (view self.new).ports
-            ≡ all_accessed (element_read (places_in (view self.old) at) width) (view self.old).ports }
-        ensures lines { (view self.new).lines
-            ≡ lines_accessed (element_read (places_in (view self.old) at) width) (view self.old).ports (view self.old).lines }
-        ensures room { room self.new ≡ room self.old }
-        ensures spots { (view self.new).spots ≡ (view self.old).spots };
+        ensures accessed { AreAccessed (λ places. element_read (places at) width) (view self.old) (view self.new) }
+        ensures room { room self.new ≡ room self.old };
 
     /// Writes an element, the lowest bytes of a value, in the port that has its first byte, and answers whether one has. The
     /// port's line is raised where the write asks for it.
@@ -54,12 +50,8 @@ pub(crate) trait Devices {
         requires room { 1 ≤ room self.old }
         ensures port { result ≡ is_port (places_in (view self.old)) at }
         ensures apart { result ≡ false → IsTrue (has_no_port (places_in (view self.old)) at width) }
-        ensures states { (view self.new).ports
-            ≡ all_accessed (element_written (places_in (view self.old) at) width value) (view self.old).ports }
-        ensures lines { (view self.new).lines
-            ≡ lines_accessed (element_written (places_in (view self.old) at) width value) (view self.old).ports (view self.old).lines }
-        ensures room { room self.old ≤ room self.new + 1 }
-        ensures spots { (view self.new).spots ≡ (view self.old).spots };
+        ensures accessed { AreAccessed (λ places. element_written (places at) width value) (view self.old) (view self.new) }
+        ensures room { room self.old ≤ room self.new + 1 };
 
     /// Gives a port a byte, and raises its line where the byte asks for it.
     fn input(&mut self, port: u8, byte: u8)

@@ -454,7 +454,7 @@ fn store_port<D: Devices>(
     finish_access(core, request, 0)
 }
 
-/// Leaves an exception to EL2 that is no abort, with PC behind the instruction or at it.
+/// Leaves an exception to EL2 that is no abort, with PC after the instruction or at it.
 fn leave(core: &mut Core, esr: u64, behind: bool) -> Exit
     ensures core { core.new ≡ (if behind then advanced core.old else core.old) }
     ensures exit { result ≡ Exit.Sync esr 0 }

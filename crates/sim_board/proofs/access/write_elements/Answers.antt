@@ -15,4 +15,4 @@ write_element-requires-then-shape-eq2-clause-backed g c =
     let there =
     second_element (is_backed (g.D.Devices.view c.args.devices.now).spots (is_kept c.args.memory.now)) c.args.shape.now.width
     c.args.shape.now.count c.args.shape.now.at c.if-shape-eq2.true low c.requires.backed in
-    rw (c.write_element.ensures.spots, c.write_element.ensures.kept, c.from.ensures) there
+    rw (c.write_element.ensures.accessed.spots, c.write_element.ensures.kept, c.from.ensures) there

@@ -14,14 +14,25 @@ write_one-raised-requires-clause-spare g c =
     = omega (arith, c.args.self.now.count, c.in-Some.ensures.number, c.from.ensures) in
     room_here _ items 1 c.from.result c.index_mut.result.now low c.index_mut.ensures.value c.requires.room
 
-pub returns-in-Some-clause-states : goal.returns-in-Some-clause-states
-returns-in-Some-clause-states g c =
+pub returns-in-Some-clause-accessed : goal.returns-in-Some-clause-accessed
+returns-in-Some-clause-accessed g c =
     let items = c.args.self.now.ports.items in
     let low : c.in-Some.byte.port < length c.args.self.now.ports.items = omega (arith, c.args.self.now.count, c.in-Some.ensures.number) in
     let stands : Some (place_of c.in-Some.byte) ≡ port_places c.args.self.now.spots.items c.args.at = search rules in
-    port_written _ items (port_places c.args.self.now.spots.items c.args.at) c.in-Some.byte c.args.width c.from.result c.args.value
-    (c.args.value % c.weight_after.result) c.index_mut.result.now c.write_one-raised.new.port stands c.from.ensures low c.index_mut.ensures.value
-    (ap (λ p. c.args.value % p) c.weight_after.ensures.bytes) c.write_one-raised.ensures.state
+    record {
+      ports =
+          port_written _ items (port_places c.args.self.now.spots.items c.args.at) c.in-Some.byte c.args.width c.from.result
+          c.args.value (c.args.value % c.weight_after.result) c.index_mut.result.now c.write_one-raised.new.port stands
+          c.from.ensures low c.index_mut.ensures.value (ap (λ p. c.args.value % p) c.weight_after.ensures.bytes)
+          c.write_one-raised.ensures.state;
+      lines =
+          c.raise_port_if.ensures
+          ∙ line_written _ items (port_places c.args.self.now.spots.items c.args.at) c.in-Some.byte c.args.width c.from.result
+          c.args.value (c.args.value % c.weight_after.result) c.index_mut.result.now c.write_one-raised.result
+          c.args.self.now.lines stands c.from.ensures low c.index_mut.ensures.value
+          (ap (λ p. c.args.value % p) c.weight_after.ensures.bytes) c.write_one-raised.ensures.line;
+      spots = search rules;
+    }
 
 pub returns-in-Some-clause-room : goal.returns-in-Some-clause-room
 returns-in-Some-clause-room g c =
@@ -35,13 +46,3 @@ returns-in-None-clause-apart g c is =
     let none : is_port (port_places c.args.self.now.spots.items) c.args.at ≡ false = search rules in
     element_free c.args.self.now.spots.items c.args.at c.args.width c.args.self.now.bases c.requires.width c.requires.aligned
     c.ranges.at.fits none
-
-pub returns-in-Some-clause-lines : goal.returns-in-Some-clause-lines
-returns-in-Some-clause-lines g c =
-    let items = c.args.self.now.ports.items in
-    let low : c.in-Some.byte.port < length c.args.self.now.ports.items = omega (arith, c.args.self.now.count, c.in-Some.ensures.number) in
-    let stands : Some (place_of c.in-Some.byte) ≡ port_places c.args.self.now.spots.items c.args.at = search rules in
-    c.raise_port_if.ensures
-    ∙ line_written _ items (port_places c.args.self.now.spots.items c.args.at) c.in-Some.byte c.args.width c.from.result c.args.value
-    (c.args.value % c.weight_after.result) c.index_mut.result.now c.write_one-raised.result c.args.self.now.lines stands c.from.ensures low c.index_mut.ensures.value
-    (ap (λ p. c.args.value % p) c.weight_after.ensures.bytes) c.write_one-raised.ensures.line
