@@ -1,5 +1,5 @@
 -- The frames through which a VM's guests reach its interrupt controller (GICv3, "Memory-mapped interface"): one for the
--- distributor, and two for each virtual core, the redistributor's own and behind it that of its private ids.
+-- distributor, and two for each virtual core, the redistributor's own and after it that of its private ids.
 use Rattle.std.specs.Prelude.{ℕ, ◌+◌, ◌-◌, ◌<◌, ◌*◌, ◌/◌, ◌%◌, nat_le, nat_lt, ◌&&◌, if◌then◌else◌, Option, Some, None}
 use Rattle.bao_types.specs.Controller.{frame_size, redistributor_size}
 use Rattle.vgic_emul.specs.declared.place.FramePlace.{FramePlace}

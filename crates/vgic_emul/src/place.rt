@@ -1,4 +1,4 @@
-ghost use Rattle.std.specs.Prelude.{◌≡◌, ◌<◌, ◌≤◌, ◌^◌, ◌*◌, ◌/◌, ◌%◌, IfSome};
+ghost use Rattle.std.specs.Prelude.{◌≡◌, ◌<◌, ◌≤◌, ◌*◌, ◌/◌, ◌%◌, IfSome};
 ghost use Rattle.bao_types.specs.ByteRange.{address_space_end};
 ghost use Rattle.bao_types.specs.Controller.{redistributor_size};
 ghost use Rattle.vgic_emul.specs.Frame.{frame_at, in_core, IsPlace};
@@ -12,7 +12,7 @@ pub enum FramePlace {
     Dist { offset: u32 },
     /// The redistributor of a virtual core.
     Redist { core: u8, offset: u32 },
-    /// The frame of a virtual core's own ids, behind its redistributor.
+    /// The frame of a virtual core's own ids, after its redistributor.
     Sgi { core: u8, offset: u32 },
 }
 
