@@ -12,3 +12,4 @@ pub mod Ways
 pub mod Standard
 pub mod Fresh
 pub mod Begun
+pub mod Listed

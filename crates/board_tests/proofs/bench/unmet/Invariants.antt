@@ -1,5 +1,5 @@
 use Rattle.std.proofs.Common.{◌≡◌, map, length, ◌+◌}
-use Rattle.board_tests.proofs.Listed.{AreStandard}
+use Rattle.sim_board.proofs.Listed.{AreStandard}
 use Rattle.sim_board.specs.contracts.machine.SimBoard.new.{dyn-1-ghosts}
 use Rattle.board_tests.proofs.bench.unmet.OwnLists.{own-1, lawful-own-1}
 use Rattle.board_tests.proofs.bench.unmet.Given as goal

@@ -5,7 +5,7 @@ use Rattle.std.proofs.lemmas.List.{length-append, length-map}
 use Rattle.std.proofs.lemmas.Bool.{cases_eq}
 use Rattle.ports.specs.PortState.{PortState, new_port}
 use Rattle.ports.specs.declared.port.PortKind.TheVariants.{Console, Scratch, Ticker}
-use Rattle.board.specs.Ports.{standard_ports}
+use Rattle.board.specs.Ports.{console_count, standard_ports}
 use Rattle.sim_board.specs.Devices.{states_of}
 
 -- each is as the port of its number
@@ -40,10 +40,10 @@ one_more f xs ys y standard grown is =
         let low' : port < length (map f xs) = omega (arith, length-append (map f xs) (f y ∷ [])) in
         before (map f xs) (f y) (new_port Console) port low' ∙ standard port low'
 
-pub console_at : (port : ℕ) → port < 8 → new_port Console ≡ standard_ports port
+pub console_at : (port : ℕ) → port < console_count → new_port Console ≡ standard_ports port
 console_at port low = search (cases_eq, arith)
 
-pub scratch_at : (port : ℕ) → 8 ≤ port → port < 12 → new_port Scratch ≡ standard_ports port
+pub scratch_at : (port : ℕ) → console_count ≤ port → port < 12 → new_port Scratch ≡ standard_ports port
 scratch_at port from low = search (cases_eq, arith)
 
 pub ticker_at : (port : ℕ) → 12 ≤ port → port < 16 → new_port Ticker ≡ standard_ports port
