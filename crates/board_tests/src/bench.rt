@@ -23,7 +23,7 @@ const START: u64 = 0x10_0000;
 /// # Errors
 ///
 /// There is no memory for the ports, or for the board.
-pub fn unmet(
+pub(crate) fn unmet(
     alloc: Global,
     image: &[u8],
     rows: &[Row],

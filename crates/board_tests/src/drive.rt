@@ -69,7 +69,7 @@ pub enum Call {
 pub type Row = (&'static str, u8, Call);
 
 /// The first row whose call doesn't answer as it is to, by what it shows.
-pub fn first_unmet<B: Board>(
+pub(crate) fn first_unmet<B: Board>(
     board: &mut B,
     table: &mut IrqTable,
     rows: &[Row],

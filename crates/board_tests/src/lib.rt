@@ -4,7 +4,6 @@
 //! The crate has no other code. It stands below the hypervisor, so that its tests can begin with ids that are enabled.
 #![tactic(auto)]
 
-pub use bench::unmet;
 pub use drive::{Call, Listed, Row, Seen};
 
 mod bench;

@@ -114,7 +114,7 @@ static READ_TO_XZR: [Row; 10] = [
     ("it is active all the same",                         0,   Holds(&[(40, 0x20, ACTIVE), (42, 0x20, PENDING), FREE, FREE])),
     ("the running priority and the next id are read",     0,   Run(2)),
     ("its priority runs",                                 0,   Shows(X(7), 0x20)),
-    ("the next comes only behind it",                     0,   Shows(X(9), 1023)),
+    ("the next comes only after it",                      0,   Shows(X(9), 1023)),
     ("it is ended",                                       0,   Run(2)),
     ("its register is free",                              0,   Holds(&[FREE, (42, 0x20, PENDING), FREE, FREE])),
     ("at the guest's end",                                0,   Shows(Pc, 0x10_0024)),

@@ -10,7 +10,7 @@ use std::test::Fail;
 /// Group 1 is on.
 pub(crate) const OPEN: [u32; 4] = [0xd280_1f00, 0xd518_4600, 0xd280_0020, 0xd518_cce0];
 
-/// The bytes of a guest: `OPEN` and these words, and a handler of interrupts behind it, where the vectors begin with the guest.
+/// The bytes of a guest: `OPEN` and these words, and a handler of interrupts after it, where the vectors begin with the guest.
 pub(crate) fn image_of(alloc: Global, words: &[u32], handler: &[u32]) -> Result<Vec<u8>, Fail> {
     let mut image = Vec::new(alloc);
     for word in OPEN.as_slice() {
