@@ -1,7 +1,9 @@
-//! Decimal numbers, as a word or a line has them: without sign, and without leading zeros.
+//! Numbers as text. Decimal ones are read as a word or a line has them: without sign, and without leading zeros. Of
+//! hexadecimal ones there are the digits.
 #![tactic(auto)]
 
-ghost use Rattle.std.specs.Prelude.{◌≡◌};
+ghost use Rattle.std.specs.Prelude.{◌≡◌, ◌<◌, false};
+ghost use Rattle.std.specs.Fmt.{digit_glyph};
 ghost use Rattle.numerals.specs.Numeral.{number_of, has_no_leading_zero};
 
 /// The number that a text is, if it is a decimal one without leading zeros. One above 2^64 - 1 counts as that one.
@@ -22,6 +24,19 @@ pub fn number(text: &[u8]) -> Option<u64>
             .saturating_add(u64::from(*byte - b'0'));
     }
     Some(value)
+}
+
+/// The hexadecimal digit of a number below 16, in lower case.
+#[inline]
+pub fn hex_digit(digit: u8) -> u8
+    requires { digit < 16 }
+    ensures { result ≡ digit_glyph false digit }
+{
+    if digit < 10 {
+        b'0' + digit
+    } else {
+        b'a' + (digit - 10)
+    }
 }
 
 fn has_no_leading_zero(text: &[u8]) -> bool
