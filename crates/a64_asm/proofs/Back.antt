@@ -26,7 +26,8 @@ use Rattle.a64_decode.specs.declared.operand.Size.{Size}
 use Rattle.a64_decode.specs.Lawful.{IsSigned, IsSysId}
 use Rattle.a64_asm.specs.Text.{comma}
 use Rattle.numerals.specs.Numeral.{number_of}
-use Rattle.a64_asm.specs.Number.{hex, offset_text}
+use Rattle.numerals.specs.Hex.{hex}
+use Rattle.a64_asm.specs.Number.{offset_text}
 use Rattle.a64_asm.specs.Register.{register_text, named}
 use Rattle.a64_asm.specs.Mnemonic.{name_of, mnemonic_of, mnemonics, branches}
 use Rattle.a64_asm.specs.Listing.{phrase, move_text, add_text, registers_text, access_text, branch_text, compare_text, system_name, system_text, raw_text}

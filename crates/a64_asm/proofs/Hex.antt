@@ -1,18 +1,14 @@
 -- Hexadecimal digits.
-use Rattle.std.proofs.Common.{◌≡◌, ℕ, zero, suc, ◌+◌, ◌-◌, ◌*◌, ◌/◌, ◌%◌, ◌^◌, ◌<◌, Bool, true, false, eqb, length, take, get_or, List, [], ◌∷◌, ◌++◌, refl, sym, ap, ◌∙◌, arith, sub-one, append_assoc}
+use Rattle.std.proofs.Common.{◌≡◌, ℕ, zero, suc, ◌+◌, ◌-◌, ◌*◌, ◌/◌, ◌%◌, ◌^◌, ◌<◌, Bool, true, false, eqb, length, take, get_or, List, [], ◌∷◌, ◌++◌, refl, sym, ap, ◌∙◌, arith, append_assoc}
 use Rattle.std.specs.Prelude.{◌&&◌, if◌then◌else◌, None, Some, fold}
 use Rattle.std.specs.List.{list_all}
 use Rattle.std.specs.Fmt.{digit_glyph}
 use Rattle.std.proofs.lemmas.List.{take_more}
 use Rattle.std.proofs.lemmas.List.Sums.{fold-append}
 use Rattle.std.proofs.lemmas.List.Folds.{list_all-append, list_all_at}
-use Rattle.a64_asm.specs.Number.{hex, is_hex_digit, hex_digit_value, hex_word_of}
-
--- one digit more
-pub hex_more : (k number : ℕ) → 0 < k → hex k number ≡ hex (k - 1) (number / 16) ++ digit_glyph false (number % 16) ∷ []
-unfolding hex
-hex_more zero number some = absurd (omega arith)
-hex_more (suc k) number some = rw sub-one refl
+use Rattle.numerals.specs.Hex.{hex}
+use Rattle.numerals.proofs.Hex.{hex_more}
+use Rattle.a64_asm.specs.Number.{is_hex_digit, hex_digit_value, hex_word_of}
 
 -- the digits so far, and one more behind them
 pub hex_push : (old before new : List ℕ) (k number digit : ℕ) → 0 < k → before ≡ old ++ hex (k - 1) (number / 16)

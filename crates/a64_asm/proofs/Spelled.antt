@@ -1,5 +1,5 @@
 -- Numbers, registers and first words are read as they are written.
-use Rattle.std.proofs.Common.{◌≡◌, ℕ, zero, suc, ◌+◌, ◌-◌, ◌*◌, ◌/◌, ◌%◌, ◌^◌, ◌<◌, Bool, true, false, not, min, List, [], ◌∷◌, ◌++◌, length, get_or, refl, sym, ap, ◌∙◌, arith, rules, eqb, length-append}
+use Rattle.std.proofs.Common.{◌≡◌, ℕ, zero, suc, ◌+◌, ◌-◌, ◌*◌, ◌/◌, ◌%◌, ◌^◌, ◌<◌, Bool, true, false, not, min, List, [], ◌∷◌, ◌++◌, length, get_or, refl, sym, ap, ◌∙◌, arith, rules, eqb}
 use Rattle.std.specs.Prelude.{Option, None, Some, ◌==◌, ◌&&◌, ◌||◌, nat_le, if◌then◌else◌, fold}
 use Rattle.std.specs.List.{list_all}
 use Rattle.std.specs.Char.{is_ascii_digit}
@@ -14,7 +14,9 @@ use Rattle.std.proofs.lemmas.Fmt.{decimal_digit, decimal_nonempty, first_decimal
 use Rattle.a64_decode.specs.declared.operand.Reg.{Reg}
 use Rattle.a64_asm.specs.Text.{Whole, Parts, put_before, cut_of, without_blank, operand_of, comma}
 use Rattle.numerals.specs.Numeral.{value_of, has_no_leading_zero, number_of}
-use Rattle.a64_asm.specs.Number.{hex, is_hex_digit, hex_digit_value, hex_word_of}
+use Rattle.numerals.specs.Hex.{hex}
+use Rattle.numerals.proofs.Hex.{length_hex}
+use Rattle.a64_asm.specs.Number.{is_hex_digit, hex_digit_value, hex_word_of}
 use Rattle.a64_asm.specs.Register.{register_of, register_text, named}
 use Rattle.a64_asm.specs.declared.register.Register.{Register}
 use Rattle.a64_asm.specs.Operand.{is_same}
@@ -193,11 +195,6 @@ glyph n low = at_below 16 is_glyph refl n low
 
 below_16 : (n : ℕ) → n % 16 < 16
 below_16 n = omega arith
-
-pub length_hex : (k n : ℕ) → length (hex k n) ≡ k
-unfolding hex
-length_hex zero n = refl
-length_hex (suc k) n = omega (arith, length-append (hex k (n / 16)) (digit_glyph false (n % 16) ∷ []), length_hex k (n / 16))
 
 pub digits_hex : (k n : ℕ) → list_all is_hex_digit (hex k n) ≡ true
 unfolding hex

@@ -2,6 +2,7 @@
 use Rattle.std.specs.Prelude.{◌≡◌, ℕ, ◌+◌, ◌*◌, ◌%◌, ◌==◌, ◌&&◌, ◌||◌, nat_le, not, Bool, true, false, if◌then◌else◌, List, [], ◌∷◌, ◌++◌, Option, None, Some, codes, unwrap_or, IsTrue, IsFalse}
 use Rattle.std.specs.List.{flat_map}
 use Rattle.std.specs.Fmt.{decimal}
+use Rattle.numerals.specs.Hex.{hex}
 use Rattle.bao_types.specs.Bytes.{little_endian}
 use Rattle.bao_types.specs.declared.sys_id.SysId.{SysId}
 use Rattle.a64_decode.specs.declared.instr.Instr.{Instr}
@@ -20,7 +21,7 @@ use Rattle.a64_decode.specs.declared.operand.Transfer.{Transfer}
 use Rattle.a64_decode.specs.declared.operand.Transfer.TheVariants as transfer
 use Rattle.a64_decode.specs.Table.{decoded}
 use Rattle.a64_asm.specs.Text.{comma}
-use Rattle.a64_asm.specs.Number.{hex, offset_text}
+use Rattle.a64_asm.specs.Number.{offset_text}
 use Rattle.a64_asm.specs.Register.{register_text}
 use Rattle.a64_asm.specs.Mnemonic.{name_of}
 use Rattle.a64_asm.specs.Source.{image_limit}

@@ -1,13 +1,9 @@
--- Hexadecimal numbers and offsets, as they are written in a line. The decimal ones are those of `numerals`.
-use Rattle.std.specs.Prelude.{ℕ, zero, suc, ◌+◌, ◌-◌, ◌*◌, ◌/◌, ◌%◌, ◌^◌, ◌==◌, ◌&&◌, ◌||◌, nat_le, nat_lt, ◌<◌, ◌≤◌, ◌⊎◌, Bool, false, if◌then◌else◌, List, [], ◌∷◌, ◌++◌, Option, None, Some, fold, length}
+-- Hexadecimal numbers and offsets, as they are written in a line. The decimal ones, and the hexadecimal digits of a number, are
+-- those of `numerals`.
+use Rattle.std.specs.Prelude.{ℕ, ◌+◌, ◌-◌, ◌*◌, ◌^◌, ◌==◌, ◌&&◌, ◌||◌, nat_le, nat_lt, ◌<◌, ◌≤◌, ◌⊎◌, Bool, if◌then◌else◌, List, ◌∷◌, Option, None, Some, fold, length}
 use Rattle.std.specs.List.{list_all}
 use Rattle.std.specs.Char.{is_ascii_digit}
-use Rattle.std.specs.Fmt.{decimal, digit_glyph}
-
--- so many hexadecimal digits, in lower case, the last one last
-unfoldable pub hex : ℕ → ℕ → List ℕ
-hex zero number = []
-hex (suc k) number = hex k (number / 16) ++ digit_glyph false (number % 16) ∷ []
+use Rattle.std.specs.Fmt.{decimal}
 
 -- `0` to `9` and `a` to `f`
 abbrev pub is_hex_digit : ℕ → Bool

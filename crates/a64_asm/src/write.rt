@@ -1,14 +1,16 @@
 //! Parts of a line, written behind a text.
-ghost use Rattle.std.specs.Prelude.{◌≡◌, ◌<◌, ◌++◌, ◌∷◌, [], false, OnOk};
-ghost use Rattle.std.specs.Fmt.{decimal, digit_glyph};
+ghost use Rattle.std.specs.Prelude.{◌≡◌, ◌<◌, ◌++◌, ◌∷◌, [], OnOk};
+ghost use Rattle.std.specs.Fmt.{decimal};
+ghost use Rattle.numerals.specs.Hex.{hex};
 ghost use Rattle.a64_asm.specs.Text.{comma};
-ghost use Rattle.a64_asm.specs.Number.{hex, offset_text, IsOffset};
+ghost use Rattle.a64_asm.specs.Number.{offset_text, IsOffset};
 ghost use Rattle.a64_asm.specs.Register.{register_text};
 ghost use Rattle.a64_asm.specs.Mnemonic.{name_of};
 
 use crate::mnemonic::{Mnemonic, name};
 use crate::register::last_name;
 use a64_decode::Reg;
+use numerals::hex_digit;
 use std::alloc::AllocError;
 
 /// Appends bytes.
@@ -79,7 +81,7 @@ pub(crate) fn push_offset(out: &mut Vec<u8>, offset: u64) -> Result<(), AllocErr
 }
 
 /// Appends so many hexadecimal digits of a number, the lowest ones.
-#[tactic(auto, using(crate::proofs::Hex::hex_more), unfolding(crate::specs::Number::hex))]
+#[tactic(auto, using(numerals::proofs::Hex::hex_more), unfolding(numerals::specs::Hex::hex))]
 pub(crate) fn push_hex(out: &mut Vec<u8>, digits: u32, number: u32) -> Result<(), AllocError>
     ensures { OnOk result (out.new.items ≡ out.old.items ++ hex digits number) }
 {
@@ -89,15 +91,4 @@ pub(crate) fn push_hex(out: &mut Vec<u8>, digits: u32, number: u32) -> Result<()
     push_hex(out, digits - 1, number / 16)?;
     out.push(hex_digit((number % 16) as u8))?;
     Ok(())
-}
-
-fn hex_digit(digit: u8) -> u8
-    requires { digit < 16 }
-    ensures { result ≡ digit_glyph false digit }
-{
-    if digit < 10 {
-        b'0' + digit
-    } else {
-        b'a' + (digit - 10)
-    }
 }
