@@ -1,0 +1,6 @@
+-- The end of a line.
+use Rattle.std.specs.Prelude.{ℕ, List, codes}
+
+-- LF
+abbrev pub newline : List ℕ
+newline = codes "\n"
