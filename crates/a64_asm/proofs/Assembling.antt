@@ -1,8 +1,9 @@
 -- A source, line by line.
 use Rattle.std.proofs.Common.{◌≡◌, ℕ, ◌+◌, ◌<◌, ◌≤◌, Bool, true, false, List, [], ◌∷◌, ◌++◌, length, refl, sym, ap, subst, ◌∙◌, arith}
 use Rattle.std.specs.Prelude.{Option, Some, None, if◌then◌else◌}
+use Rattle.text_lines.specs.Rules.{unless_broken}
 use Rattle.a64_asm.specs.Text.{Whole, Parts, cut_of}
-use Rattle.a64_asm.specs.Source.{judged, broken_by, bytes_in, unless_bad, at_end, Image, Broken, next_of, assembled_from, assembled, beginning, lines_of, definitions, is_word, TellsBroken}
+use Rattle.a64_asm.specs.Source.{judged, broken_by, bytes_in, at_end, Image, Broken, next_of, assembled_from, assembled, beginning, lines_of, definitions, is_word, TellsBroken}
 use Rattle.a64_asm.specs.Progress.{TakesLine, IsRefused}
 use Rattle.a64_asm.specs.declared.label.Definition.{Definition}
 use Rattle.a64_asm.specs.declared.source.Progress.{Progress}
@@ -24,7 +25,7 @@ begins text bytes none =
 -- the first line decides, where something stands behind it
 pub next_line : (labels : List ℕ → Option Definition) (bytes : List ℕ) (here : Definition) (line : List ℕ) (more : List (List ℕ)) → 0 < length more
     → assembled_from labels bytes here (line ∷ more)
-    ≡ unless_bad (here.line + 1) (broken_by (judged labels here line))
+    ≡ unless_broken (Broken (here.line + 1)) (broken_by (judged labels here line))
     (assembled_from labels (bytes ++ bytes_in (judged labels here line)) (next_of here line) more)
 unfolding assembled_from
 next_line labels bytes here line [] some = absurd (omega arith)
@@ -41,12 +42,12 @@ module _ (text : List ℕ) (before : Progress) (rest line others : List ℕ) (re
     (cut : cut_of 10 rest ≡ Parts line others) where
   by_rule : (rule : Option ℕ) → broken_by (judged (definitions text) before.here line) ≡ rule
       → assembled text
-      ≡ unless_bad (before.here.line + 1) rule
+      ≡ unless_broken (Broken (before.here.line + 1)) rule
       (assembled_from (definitions text) (before.image.items ++ bytes_in (judged (definitions text) before.here line)) (next_of before.here line) (lines_of others))
   by_rule rule is =
       reading.left ∙ ap (assembled_from (definitions text) before.image.items before.here) (first_line rest line others cut).split
       ∙ next_line (definitions text) before.image.items before.here line (lines_of others) (some_part others)
-      ∙ ap (λ r. unless_bad (before.here.line + 1) r (assembled_from (definitions text) (before.image.items ++ bytes_in (judged (definitions text) before.here line)) (next_of before.here line) (lines_of others))) is
+      ∙ ap (λ r. unless_broken (Broken (before.here.line + 1)) r (assembled_from (definitions text) (before.image.items ++ bytes_in (judged (definitions text) before.here line)) (next_of before.here line) (lines_of others))) is
 
   with_line : (after : Progress) → TakesLine (definitions text) before line after → IsReading text after.image.items after.here others
   with_line after takes =

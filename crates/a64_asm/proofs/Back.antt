@@ -24,6 +24,7 @@ use Rattle.a64_decode.specs.declared.operand.ExceptionKind.TheVariants.{Svc, Hvc
 use Rattle.a64_decode.specs.declared.operand.Shift.TheVariants.{Lsl}
 use Rattle.a64_decode.specs.declared.operand.Size.{Size}
 use Rattle.a64_decode.specs.Lawful.{IsSigned, IsSysId}
+use Rattle.a64_decode.specs.Access.{scale_of}
 use Rattle.a64_asm.specs.Text.{comma}
 use Rattle.numerals.specs.Numeral.{number_of}
 use Rattle.numerals.specs.Hex.{hex}
@@ -296,9 +297,11 @@ offset_read : (n : ℕ) → n < 2 ^ 64 → offset_of (decimal n ++ codes "]") �
 unfolding offset_of
 offset_read n low = ap offset_in (cut_at 93 (decimal n) [] (no_bracket (decimal n) (plain_decimal n low))) ∙ number_read n low
 
-pub transferred_back : (load : Bool) (size : Size) (bytes offset imm12 : ℕ) (rt base : Register) → imm12 < 2 ^ 12 → offset % bytes ≡ 0 → offset / bytes ≡ imm12
-    → transferred load size bytes rt base offset ≡ Ok (Instruction (instr.LoadStoreUnsigned size (transfer_of load) imm12 base.reg rt.reg))
-transferred_back load size bytes offset imm12 rt base few whole count =
+pub transferred_back : (load : Bool) (size : Size) (offset imm12 : ℕ) (rt base : Register) → imm12 < 2 ^ 12
+    → offset % 2 ^ scale_of size ≡ 0 → offset / 2 ^ scale_of size ≡ imm12
+    → transferred load size rt base offset ≡ Ok (Instruction (instr.LoadStoreUnsigned size (transfer_of load) imm12 base.reg rt.reg))
+transferred_back load size offset imm12 rt base few whole count =
+    let bytes : ℕ = 2 ^ scale_of size in
     chosen ((offset % bytes == 0) && nat_lt (offset / bytes) 4096) _ (Err 2)
     (and_from (offset % bytes == 0) (nat_lt (offset / bytes) 4096) (eq-eqb (offset % bytes) 0 whole) (below (offset / bytes) 4096 (omega (arith, count, few))))
     ∙ ap (λ n. Ok (Instruction (instr.LoadStoreUnsigned size (transfer_of load) n base.reg rt.reg))) count

@@ -20,7 +20,8 @@ use Rattle.a64_asm.specs.Register.{named}
 use Rattle.a64_asm.specs.Mnemonic.{name_of}
 use Rattle.a64_asm.specs.Listing.{registers_text, transfer_form, form_of, raw_text, text_of, line_of_word, words_of, listing, is_image_length}
 use Rattle.a64_asm.specs.Reading.{transfer_of}
-use Rattle.a64_asm.specs.Source.{label_in, label_of, is_word, next_of, beginning, lines_of, definitions, word_said, image_limit, within_limit, judged_by, judged, broken_by, bytes_in, Image, unless_bad, assembled_from, assembled}
+use Rattle.text_lines.specs.Rules.{unless_broken}
+use Rattle.a64_asm.specs.Source.{label_in, label_of, is_word, next_of, beginning, lines_of, definitions, word_said, image_limit, within_limit, judged_by, judged, broken_by, bytes_in, Image, Broken, assembled_from, assembled}
 use Rattle.a64_asm.specs.declared.label.Definition.{Definition}
 use Rattle.a64_asm.specs.declared.said.Said.{Said}
 use Rattle.a64_asm.specs.declared.said.Said.TheVariants.{Instruction, Raw}
@@ -59,18 +60,18 @@ transfer_line : (load : Bool) (size : Size) (imm12 : ℕ) (rn rt : Reg) → imm1
     → IsFormLine (transfer_form load size imm12 rn rt) (instr.LoadStoreUnsigned size (transfer_of load) imm12 rn rt)
 transfer_line load size.Byte imm12 rn rt few n t = (
   access_line load true false imm12 rn rt _ (omega (arith, few)) n t
-      (transferred_back load size.Byte 1 imm12 imm12 (named false rt.0) (named true rn.0) few (omega arith) (omega arith)),
+      (transferred_back load size.Byte imm12 imm12 (named false rt.0) (named true rn.0) few (omega arith) (omega arith)),
   λ e. cc,
 )
 transfer_line load size.Half imm12 rn rt few n t = tt
 transfer_line load size.Word imm12 rn rt few n t = (
   access_line load false false (4 * imm12) rn rt _ (omega (arith, few)) n t
-      (transferred_back load size.Word 4 (4 * imm12) imm12 (named false rt.0) (named true rn.0) few (omega arith) (omega arith)),
+      (transferred_back load size.Word (4 * imm12) imm12 (named false rt.0) (named true rn.0) few (omega arith) (omega arith)),
   λ e. cc,
 )
 transfer_line load size.Double imm12 rn rt few n t = (
   access_line load false true (8 * imm12) rn rt _ (omega (arith, few)) n t
-      (transferred_back load size.Double 8 (8 * imm12) imm12 (named true rt.0) (named true rn.0) few (omega arith) (omega arith)),
+      (transferred_back load size.Double (8 * imm12) imm12 (named true rt.0) (named true rn.0) few (omega arith) (omega arith)),
   λ e. cc,
 )
 
@@ -216,7 +217,7 @@ words_back labels (word ∷ words) bytes here small room =
     let back = text_back word small.0 in
     let said = back.judged_is labels here (omega (arith, room)) in
     next_line labels bytes here text (parts_of words) (some_parts words)
-    ∙ ap (λ j. unless_bad (here.line + 1) (broken_by j) (assembled_from labels (bytes ++ bytes_in j) (next_of here text) (parts_of words))) said
+    ∙ ap (λ j. unless_broken (Broken (here.line + 1)) (broken_by j) (assembled_from labels (bytes ++ bytes_in j) (next_of here text) (parts_of words))) said
     ∙ words_back labels words (bytes ++ low_bytes 4 word) (next_of here text) small.1 (omega (arith, room, next_place here text back.counts))
     ∙ ap Image (append_assoc bytes (low_bytes 4 word) (flat_map (low_bytes 4) words))
 

@@ -12,6 +12,7 @@ use Rattle.a64_decode.specs.declared.operand.Condition.{Condition}
 use Rattle.a64_decode.specs.declared.operand.Size.{Size}
 use Rattle.a64_decode.specs.declared.operand.Size.TheVariants as size
 use Rattle.a64_decode.specs.Lawful.{IsSigned, has_no_transfer, width_of}
+use Rattle.a64_decode.specs.Access.{scale_of}
 use Rattle.a64_asm.specs.Text.{Cut, Whole, Parts, cut_of, operand_of}
 use Rattle.numerals.specs.Numeral.{number_of}
 use Rattle.a64_asm.specs.Number.{hex_word_of}
@@ -153,9 +154,10 @@ has_transfer false size.Half = refl
 has_transfer false size.Word = refl
 has_transfer false size.Double = refl
 
-fine_transferred : (load : Bool) (size : Size) (bytes : ℕ) (rt base : Register) (offset : ℕ) → rt.reg.0 < 32 → base.reg.0 < 32
-    → IsFine (transferred load size bytes rt base offset)
-fine_transferred load size bytes rt base offset one two =
+fine_transferred : (load : Bool) (size : Size) (rt base : Register) (offset : ℕ) → rt.reg.0 < 32 → base.reg.0 < 32
+    → IsFine (transferred load size rt base offset)
+fine_transferred load size rt base offset one two =
+    let bytes : ℕ = 2 ^ scale_of size in
     fine_if ((offset % bytes == 0) && nat_lt (offset / bytes) 4096) _ (Err 2)
     (λ e. let facts = and_parts (offset % bytes == 0) (nat_lt (offset / bytes) 4096) e in
     ((ltb-true (offset / bytes) 4096 facts.1, two, one, has_transfer load size), refl))
@@ -163,9 +165,9 @@ fine_transferred load size bytes rt base offset one two =
 
 fine_accessed : (load byte : Bool) (rt base : Register) (offset : ℕ) → rt.reg.0 < 32 → base.reg.0 < 32 → IsFine (accessed load byte rt base offset)
 fine_accessed load false rt base offset one two =
-    fine_if rt.wide _ _ (λ _. fine_transferred load size.Double 8 rt base offset one two) (fine_transferred load size.Word 4 rt base offset one two)
+    fine_if rt.wide _ _ (λ _. fine_transferred load size.Double rt base offset one two) (fine_transferred load size.Word rt base offset one two)
 fine_accessed load true rt base offset one two =
-    fine_if rt.wide (Err 1) _ (λ _. tt) (fine_transferred load size.Byte 1 rt base offset one two)
+    fine_if rt.wide (Err 1) _ (λ _. tt) (fine_transferred load size.Byte rt base offset one two)
 
 fine_access_of : (load byte : Bool) (rt base : Option Register) (offset : Option ℕ) → IsGood rt → IsGood base → IsFine (access load byte rt base offset)
 fine_access_of load byte None base offset one two = tt

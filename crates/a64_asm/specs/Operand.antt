@@ -2,6 +2,7 @@
 use Rattle.std.specs.Prelude.{ℕ, ◌+◌, ◌-◌, ◌*◌, ◌/◌, ◌%◌, ◌^◌, ◌==◌, ◌&&◌, ◌||◌, nat_lt, nat_le, Bool, true, false, if◌then◌else◌, List, [], ◌∷◌, length, Option, None, Some, Result, Ok, Err}
 use Rattle.std.specs.List.{list_all}
 use Rattle.std.specs.Char.{is_ascii_digit}
+use Rattle.text_lines.specs.Ascii.{minus_sign, capital_a, capital_z, opening_bracket, closing_bracket, low_line, letter_a, letter_c, letter_s, letter_z}
 use Rattle.a64_asm.specs.Text.{Cut, Whole, Parts, cut_of, operand_of}
 use Rattle.numerals.specs.Numeral.{number_of}
 use Rattle.a64_asm.specs.Register.{register_of}
@@ -44,26 +45,26 @@ trio_of (Some first) (Some second) (Some third) =
     then Some (record { wide = first.wide; rd = first.reg; rn = second.reg; rm = third.reg })
     else None
 
--- `[N` is a base, where 31 is SP; 91 is `[`
+-- `[N` is a base, where 31 is SP
 abbrev pub base_of : List ℕ → Option Register
 base_of [] = None
-base_of (first ∷ name) = if first == 91 then register_of true name else None
+base_of (first ∷ name) = if first == opening_bracket then register_of true name else None
 
--- `I]` is an offset; 93 is `]`
+-- `I]` is an offset
 abbrev pub offset_in : Cut → Option ℕ
 offset_in Whole = None
 offset_in (Parts digits []) = number_of digits
 offset_in (Parts digits (first ∷ others)) = None
 
 unfoldable pub offset_of : List ℕ → Option ℕ
-offset_of text = offset_in (cut_of 93 text)
+offset_of text = offset_in (cut_of closing_bracket text)
 
 -- a letter and a number
 abbrev pub number_behind : ℕ → List ℕ → Option ℕ
 number_behind letter [] = None
 number_behind letter (first ∷ digits) = if first == letter then number_of digits else None
 
--- a system register's name, `sA_B_cC_cD_E`, cut at its lines, 95; 115 is `s`, and 99 is `c`
+-- a system register's name, `sA_B_cC_cD_E`, cut at its low lines
 abbrev pub numbers_of : Option ℕ → Option ℕ → Option ℕ → Option ℕ → Option ℕ → Option Numbers
 numbers_of (Some a) (Some b) (Some c) (Some d) (Some e) = Some (record { op0 = a; op1 = b; crn = c; crm = d; op2 = e })
 numbers_of _ _ _ _ _ = None
@@ -71,31 +72,31 @@ numbers_of _ _ _ _ _ = None
 -- the last two parts, behind three
 abbrev pub last_numbers : Option ℕ → Option ℕ → List ℕ → Cut → Option Numbers
 last_numbers a b c Whole = None
-last_numbers a b c (Parts d e) = numbers_of a b (number_behind 99 c) (number_behind 99 d) (number_of e)
+last_numbers a b c (Parts d e) = numbers_of a b (number_behind letter_c c) (number_behind letter_c d) (number_of e)
 
 -- the last three parts, behind two
 abbrev pub three_numbers : Option ℕ → Option ℕ → Cut → Option Numbers
 three_numbers a b Whole = None
-three_numbers a b (Parts c others) = last_numbers a b c (cut_of 95 others)
+three_numbers a b (Parts c others) = last_numbers a b c (cut_of low_line others)
 
 -- the last four parts, behind the first
 abbrev pub four_numbers : Option ℕ → Cut → Option Numbers
 four_numbers a Whole = None
-four_numbers a (Parts b others) = three_numbers a (number_of b) (cut_of 95 others)
+four_numbers a (Parts b others) = three_numbers a (number_of b) (cut_of low_line others)
 
 abbrev pub five_numbers : Cut → Option Numbers
 five_numbers Whole = None
-five_numbers (Parts a others) = four_numbers (number_behind 115 a) (cut_of 95 others)
+five_numbers (Parts a others) = four_numbers (number_behind letter_s a) (cut_of low_line others)
 
 unfoldable pub system_numbers : List ℕ → Option Numbers
-system_numbers text = five_numbers (cut_of 95 text)
+system_numbers text = five_numbers (cut_of low_line text)
 
 abbrev pub is_letter : ℕ → Bool
-is_letter byte = (nat_le 97 byte && nat_le byte 122) || (nat_le 65 byte && nat_le byte 90)
+is_letter byte = (nat_le letter_a byte && nat_le byte letter_z) || (nat_le capital_a byte && nat_le byte capital_z)
 
--- letters, digits and `_`, which is 95
+-- letters, digits and `_`
 abbrev pub is_name_byte : ℕ → Bool
-is_name_byte byte = is_letter byte || is_ascii_digit byte || byte == 95
+is_name_byte byte = is_letter byte || is_ascii_digit byte || byte == low_line
 
 -- a label's name: up to 32 of these, the first a letter
 abbrev pub begins_with_letter : List ℕ → Bool
@@ -110,10 +111,10 @@ abbrev pub distance_of : Bool → Option ℕ → Result Distance ℕ
 distance_of back None = Err 1
 distance_of back (Some bytes) = Ok (record { back = back; bytes = bytes })
 
--- an offset; 45 is `-`
+-- an offset, where it goes back with its sign
 abbrev pub signed_of : List ℕ → Result Distance ℕ
 signed_of [] = Err 1
-signed_of (first ∷ rest) = if first == 45 then distance_of true (number_of rest) else distance_of false (number_of (first ∷ rest))
+signed_of (first ∷ rest) = if first == minus_sign then distance_of true (number_of rest) else distance_of false (number_of (first ∷ rest))
 
 -- from this word to that one
 abbrev pub distance_between : ℕ → ℕ → Distance

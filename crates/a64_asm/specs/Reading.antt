@@ -1,6 +1,6 @@
 -- What a line says that is one word of the image: an instruction by the form of the line, or a word as it is. Rule 1 is the
 -- form, 2 a number that the form doesn't admit, and 3 a label that no line defines.
-use Rattle.std.specs.Prelude.{ℕ, ◌/◌, ◌%◌, ◌==◌, ◌&&◌, ◌||◌, nat_lt, Bool, true, false, if◌then◌else◌, List, Option, None, Some, Result, Ok, Err}
+use Rattle.std.specs.Prelude.{ℕ, ◌/◌, ◌%◌, ◌^◌, ◌==◌, ◌&&◌, ◌||◌, nat_lt, Bool, true, false, if◌then◌else◌, List, Option, None, Some, Result, Ok, Err}
 use Rattle.a64_decode.specs.declared.instr.Instr.TheVariants as instr
 use Rattle.a64_decode.specs.declared.operand.Condition.{Condition}
 use Rattle.a64_decode.specs.declared.operand.LogicalKind.{LogicalKind}
@@ -12,6 +12,8 @@ use Rattle.a64_decode.specs.declared.operand.Size.{Size}
 use Rattle.a64_decode.specs.declared.operand.Size.TheVariants as size
 use Rattle.a64_decode.specs.declared.operand.Transfer.{Transfer}
 use Rattle.a64_decode.specs.declared.operand.Transfer.TheVariants as transfer
+use Rattle.a64_decode.specs.Access.{scale_of}
+use Rattle.text_lines.specs.Ascii.{blank}
 use Rattle.a64_asm.specs.Text.{Cut, Whole, Parts, cut_of, operand_of}
 use Rattle.numerals.specs.Numeral.{number_of}
 use Rattle.a64_asm.specs.Number.{hex_word_of}
@@ -82,18 +84,19 @@ abbrev pub transfer_of : Bool → Transfer
 transfer_of false = transfer.Store
 transfer_of true = transfer.Load
 
--- so many bytes at a time; the offset is a multiple of them that fits 12 bits
-abbrev pub transferred : Bool → Size → ℕ → Register → Register → ℕ → Result Said ℕ
-transferred load size bytes rt base offset =
-    if (offset % bytes == 0) && nat_lt (offset / bytes) 4096
-    then Ok (Instruction (instr.LoadStoreUnsigned size (transfer_of load) (offset / bytes) base.reg rt.reg))
+-- the offset is a multiple of the width that fits 12 bits
+abbrev pub transferred : Bool → Size → Register → Register → ℕ → Result Said ℕ
+transferred load size rt base offset =
+    let width : ℕ = 2 ^ scale_of size in
+    if (offset % width == 0) && nat_lt (offset / width) 4096
+    then Ok (Instruction (instr.LoadStoreUnsigned size (transfer_of load) (offset / width) base.reg rt.reg))
     else Err 2
 
 -- a byte goes to or from a 32-bit register
 abbrev pub accessed : Bool → Bool → Register → Register → ℕ → Result Said ℕ
 accessed load false rt base offset =
-    if rt.wide then transferred load size.Double 8 rt base offset else transferred load size.Word 4 rt base offset
-accessed load true rt base offset = if rt.wide then Err 1 else transferred load size.Byte 1 rt base offset
+    if rt.wide then transferred load size.Double rt base offset else transferred load size.Word rt base offset
+accessed load true rt base offset = if rt.wide then Err 1 else transferred load size.Byte rt base offset
 
 -- `ldr T, [N, I]`, and the others
 abbrev pub access : Bool → Bool → Option Register → Option Register → Option ℕ → Result Said ℕ
@@ -198,10 +201,10 @@ row_of labels place (Some ExceptionReturn) text = Err 1
 row_of labels place (Some Nop) text = Err 1
 row_of labels place (Some Word) text = word_row (hex_word_of text)
 
--- a line that is one word: its first word ends at its first blank, 32
+-- a line that is one word: its first word ends at its first blank
 abbrev pub said_in : (List ℕ → Option Definition) → ℕ → List ℕ → Cut → Result Said ℕ
 said_in labels place text Whole = alone (mnemonic_of text)
 said_in labels place text (Parts name operands) = row_of labels place (mnemonic_of name) operands
 
 unfoldable pub said_of : (List ℕ → Option Definition) → ℕ → List ℕ → Result Said ℕ
-said_of labels place text = said_in labels place text (cut_of 32 text)
+said_of labels place text = said_in labels place text (cut_of blank text)

@@ -8,6 +8,8 @@ use Rattle.a64_decode.specs.declared.instr.Instr.{Instr}
 use Rattle.a64_decode.specs.declared.instr.Instr.TheVariants as instr
 use Rattle.a64_decode.specs.Lawful.{IsLawful}
 use Rattle.a64_encode.specs.Encode.{encoded}
+use Rattle.text_lines.specs.Ascii.{line_feed, colon, semicolon}
+use Rattle.text_lines.specs.Rules.{unless_broken}
 use Rattle.a64_asm.specs.Text.{Cut, Whole, Parts, cut_of}
 use Rattle.a64_asm.specs.Operand.{is_name}
 use Rattle.a64_asm.specs.Reading.{said_of}
@@ -17,19 +19,19 @@ use Rattle.a64_asm.specs.declared.label.Definition.{Definition}
 use Rattle.a64_asm.specs.declared.error.AsmError.{AsmError}
 use Rattle.a64_asm.specs.declared.error.AsmError.TheVariants.{BadLine, OutOfMemory}
 
--- a name and a colon, 58, are a label
+-- a name and a colon are a label
 abbrev pub label_in : Cut → Option (List ℕ)
 label_in Whole = None
 label_in (Parts name []) = if is_name name then Some name else None
 label_in (Parts name (first ∷ others)) = None
 
 unfoldable pub label_of : List ℕ → Option (List ℕ)
-label_of line = label_in (cut_of 58 line)
+label_of line = label_in (cut_of colon line)
 
--- an empty line, or a comment: 59 is `;`
+-- an empty line, or a comment, which begins with `;`
 abbrev pub is_blank : List ℕ → Bool
 is_blank [] = true
-is_blank (first ∷ rest) = first == 59
+is_blank (first ∷ rest) = first == semicolon
 
 -- every other line counts as a word, whatever it says
 unfoldable pub is_word : List ℕ → Bool
@@ -54,9 +56,9 @@ found_from here (line ∷ next ∷ others) name =
 abbrev pub beginning : Definition
 beginning = record { line = 0; place = 0 }
 
--- the lines of a text are the parts between the bytes LF, which is 10
+-- the lines of a text are the parts between the bytes LF
 abbrev pub lines_of : List ℕ → List (List ℕ)
-lines_of text = slice_split (λ byte. byte == 10) text
+lines_of text = slice_split (λ byte. byte == line_feed) text
 
 abbrev pub definitions : List ℕ → List ℕ → Option Definition
 definitions text name = found_from beginning (lines_of text) name
@@ -104,11 +106,6 @@ pub data Assembled : Type 0 where
   Image : (bytes : List ℕ) → Assembled
   Broken : (line rule : ℕ) → Assembled
 
--- a broken rule of this line, or what the later lines give
-abbrev pub unless_bad : ℕ → Option ℕ → Assembled → Assembled
-unless_bad line None later = later
-unless_bad line (Some rule) later = Broken line rule
-
 -- what is behind the last end of a line must be nothing, else it is a line of no form
 abbrev pub at_end : List ℕ → Definition → List ℕ → Assembled
 at_end bytes here [] = Image bytes
@@ -119,7 +116,7 @@ unfoldable pub assembled_from : (List ℕ → Option Definition) → List ℕ �
 assembled_from labels bytes here [] = Image bytes
 assembled_from labels bytes here (behind ∷ []) = at_end bytes here behind
 assembled_from labels bytes here (line ∷ next ∷ others) =
-    unless_bad (here.line + 1) (broken_by (judged labels here line))
+    unless_broken (Broken (here.line + 1)) (broken_by (judged labels here line))
     (assembled_from labels (bytes ++ bytes_in (judged labels here line)) (next_of here line) (next ∷ others))
 
 -- what a source gives

@@ -1,5 +1,6 @@
 -- A text, cut at a byte.
 use Rattle.std.specs.Prelude.{ℕ, ◌==◌, if◌then◌else◌, List, [], ◌∷◌, codes}
+use Rattle.text_lines.specs.Ascii.{blank, comma_sign}
 
 -- the byte isn't in the text, or these stand before and behind the first such byte
 pub data Cut : Type 0 where
@@ -14,15 +15,15 @@ unfoldable pub cut_of : ℕ → List ℕ → Cut
 cut_of byte [] = Whole
 cut_of byte (first ∷ rest) = if first == byte then Parts [] rest else put_before first (cut_of byte rest)
 
--- a blank, 32, stands behind the byte, and goes
+-- a blank stands behind the byte, and goes
 abbrev pub without_blank : Cut → Cut
 without_blank Whole = Whole
 without_blank (Parts front []) = Whole
-without_blank (Parts front (first ∷ rest)) = if first == 32 then Parts front rest else Whole
+without_blank (Parts front (first ∷ rest)) = if first == blank then Parts front rest else Whole
 
--- an operand, before the first comma, 44, and its blank, and what stands behind them
+-- an operand, before the first comma and its blank, and what stands behind them
 unfoldable pub operand_of : List ℕ → Cut
-operand_of text = without_blank (cut_of 44 text)
+operand_of text = without_blank (cut_of comma_sign text)
 
 -- what stands between two operands
 abbrev pub comma : List ℕ

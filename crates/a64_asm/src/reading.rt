@@ -255,30 +255,30 @@ fn accessed(load: bool, byte: bool, rt: Register, base: Register, offset: u64) -
     ensures { result ≡ accessed load byte rt base offset }
 {
     match (byte, rt.wide) {
-        (false, true) => transferred(load, Size::Double, 8, rt, base, offset),
-        (false, false) => transferred(load, Size::Word, 4, rt, base, offset),
+        (false, true) => transferred(load, Size::Double, rt, base, offset),
+        (false, false) => transferred(load, Size::Word, rt, base, offset),
         (true, true) => Err(1),
-        (true, false) => transferred(load, Size::Byte, 1, rt, base, offset),
+        (true, false) => transferred(load, Size::Byte, rt, base, offset),
     }
 }
 
-/// So many bytes at a time.
+/// The offset is a multiple of the width that fits 12 bits.
+#[tactic(auto, using(crate::proofs::Offsets::some_width))]
 fn transferred(
     load: bool,
     size: Size,
-    bytes: u64,
     rt: Register,
     base: Register,
     offset: u64,
 ) -> Result<Said, u8>
-    requires { 0 < bytes }
-    ensures { result ≡ transferred load size bytes rt base offset }
+    ensures { result ≡ transferred load size rt base offset }
 {
-    if offset % bytes == 0 && offset / bytes < 4096 {
+    let width = u64::from(size.bytes());
+    if offset % width == 0 && offset / width < 4096 {
         Ok(Said::Instruction(Instr::LoadStoreUnsigned {
             size,
             transfer: transfer_of(load),
-            imm12: (offset / bytes) as u16,
+            imm12: (offset / width) as u16,
             rn: base.reg,
             rt: rt.reg,
         }))

@@ -2,19 +2,13 @@
 ghost use Rattle.std.specs.Prelude.{◌≡◌, MatchOption};
 ghost use Rattle.a64_asm.specs.Text.{cut_of, operand_of, Whole, Parts};
 
-/// The bytes before the first of these, and those behind it, where there is one.
+/// The bytes before the first of these, and those behind it, where there is one, in the words of the forms of lines.
+#[tactic(auto, using(crate::proofs::Cuts::in_parts, crate::proofs::Cuts::whole))]
 pub(crate) fn cut_at(text: &[u8], byte: u8) -> Option<(&[u8], &[u8])>
     ensures { MatchOption result (cut_of byte text.now ≡ Whole)
         (λ cut. cut_of byte text.now ≡ Parts cut.0.now cut.1.now) }
 {
-    match text.iter().position(|other| *other == byte) {
-        Some(at) => {
-            let (front, back) = text.split_at(at);
-            let (_byte, behind) = back.split_at(1);
-            Some((front, behind))
-        }
-        None => None,
-    }
+    text_lines::cut_at(text, byte)
 }
 
 /// The first operand, and those behind its comma and blank, where there are more.
