@@ -1,4 +1,3 @@
-pub mod Digits
 pub mod Progress
 pub mod Texts
 pub mod Runs

@@ -3,8 +3,9 @@ use Rattle.std.proofs.Common.{◌≡◌, ℕ, zero, suc, ◌+◌, ◌-◌, ◌<�
 use Rattle.std.proofs.Math.Seq.{drop-cons}
 use Rattle.std.proofs.Math.ListN.{drop_of_length-le}
 use Rattle.std.specs.Prelude.{Option}
+use Rattle.numerals.specs.Hex.{hex}
 use Rattle.outside.specs.Sink.{grown, TakesPart}
-use Rattle.report.specs.Digits.{hex, hex_bytes}
+use Rattle.text_lines.specs.Digits.{hex_bytes}
 use Rattle.report.specs.Lines.{nonzero_line, x_name}
 use Rattle.report.specs.Registers.{general_text}
 use Rattle.report.specs.Groups.{plain_group, groups_text}

@@ -1,4 +1,3 @@
-pub mod Digits
 pub mod Lines
 pub mod Registers
 pub mod Section

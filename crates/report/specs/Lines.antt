@@ -1,10 +1,9 @@
 -- The lines of the report. Each ends with LF.
-use Rattle.std.specs.Prelude.{ℕ, ◌==◌, if◌then◌else◌, List, [], ◌∷◌, ◌++◌, codes}
+use Rattle.std.specs.Prelude.{ℕ, ◌==◌, if◌then◌else◌, List, [], ◌++◌, codes}
 use Rattle.std.specs.Fmt.{decimal}
-use Rattle.report.specs.Digits.{hex, hex_bytes}
-
-abbrev pub newline : List ℕ
-newline = 10 ∷ []
+use Rattle.numerals.specs.Hex.{hex}
+use Rattle.text_lines.specs.Newline.{newline}
+use Rattle.text_lines.specs.Digits.{hex_bytes}
 
 -- `vm NAME` and `end NAME`
 unfoldable pub vm_line : List ℕ → List ℕ

@@ -1,11 +1,11 @@
 -- The text of a packing: each core with its entries, then `ok`.
 use Rattle.std.specs.Prelude.{ℕ, ◌+◌, List, [], ◌∷◌, ◌++◌, Option, None, Some, codes, length, slice_index_or}
 use Rattle.std.specs.Fmt.{decimal}
+use Rattle.numerals.specs.Hex.{hex}
 use Rattle.bao_types.specs.declared.region.Region.{Region}
 use Rattle.bao_config.specs.Data.{ConfigData, VmData}
 use Rattle.bao_wellformed.specs.Map.{owner}
-use Rattle.report.specs.Digits.{hex}
-use Rattle.report.specs.Lines.{newline}
+use Rattle.text_lines.specs.Newline.{newline}
 
 -- the name of a core's VM, `-` where it has none
 abbrev pub owner_name : Option VmData → List ℕ

@@ -5,8 +5,8 @@ use Rattle.bao_types.specs.declared.range.ByteRange.{ByteRange}
 use Rattle.bao_config.specs.Path.{path_of}
 use Rattle.bao_wellformed.specs.Break.{none}
 use Rattle.bao_wellformed.specs.declared.ill.Ill.{Ill}
-use Rattle.report.specs.Digits.{short_hex}
-use Rattle.report.specs.Lines.{newline}
+use Rattle.text_lines.specs.Digits.{short_hex}
+use Rattle.text_lines.specs.Newline.{newline}
 use Rattle.report.specs.declared.status.FileId.{FileId}
 use Rattle.report.specs.declared.status.FileId.TheVariants.{Config, Image, Schedule}
 use Rattle.report.specs.declared.status.Why.{Why}

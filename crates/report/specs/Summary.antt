@@ -2,6 +2,7 @@
 use Rattle.std.specs.Prelude.{ℕ, ◌%◌, ◌^◌, if◌then◌else◌, List, [], ◌∷◌, ◌++◌, Option, None, Some, slice_get, codes, length, sum}
 use Rattle.std.specs.Fmt.{decimal}
 use Rattle.std.specs.List.{flat_map}
+use Rattle.numerals.specs.Hex.{hex}
 use Rattle.a64_state.specs.Core.{CoreData}
 use Rattle.a64_state.specs.Registers.{x_of}
 use Rattle.bao_config.specs.Data.{ConfigData, VmData}
@@ -9,8 +10,8 @@ use Rattle.bao_config.specs.declared.config.Dev.{Dev}
 use Rattle.board.specs.Machine.{core_at}
 use Rattle.board.specs.Ports.{outputs}
 use Rattle.vm_model.specs.Flat.{Flat}
-use Rattle.report.specs.Digits.{hex}
-use Rattle.report.specs.Lines.{newline, done_line}
+use Rattle.text_lines.specs.Newline.{newline}
+use Rattle.report.specs.Lines.{done_line}
 use Rattle.report.specs.Section.{is_console}
 
 -- X0 of the first of a VM's cores, its virtual core 0; a VM without cores has none, and shows 0

@@ -1,13 +1,15 @@
 ghost use Rattle.std.specs.Prelude.{◌≡◌, ◌+◌, ◌*◌, ◌<◌, ◌≤◌, ◌++◌, length};
 ghost use Rattle.outside.specs.Sink.{Takes, HasCause};
-ghost use Rattle.report.specs.Lines.{vm_line, end_line, core_parked_line, register_line, nonzero_line, x_name, console_head, memory_line, newline};
+ghost use Rattle.report.specs.Lines.{vm_line, end_line, core_parked_line, register_line, nonzero_line, x_name, console_head, memory_line};
+ghost use Rattle.text_lines.specs.Newline.{newline};
 ghost use Rattle.std.specs.Fmt.{decimal};
-ghost use Rattle.report.specs.Digits.{hex};
+ghost use Rattle.numerals.specs.Hex.{hex};
 ghost use Rattle.report.specs.Section.{power_line};
 
-use crate::line::{Line, push_decimal, push_hex, push_hex_bytes, push_text};
+use crate::line::Line;
 use hypercalls::Power;
 use outside::{Sink, SinkFailed};
+use text_lines::{push_decimal, push_hex, push_hex_bytes, push_text};
 
 /// `vm NAME`
 #[tactic(auto, unfolding(crate::specs::Lines::vm_line))]

@@ -6,12 +6,13 @@ ghost use Rattle.bao_wellformed.specs.Checked.{checked_data};
 ghost use Rattle.bao_wellformed.specs.Map.{owner};
 ghost use Rattle.report.specs.Packing.{packing_text, packed_text, packed_line, packed_name, packed_counts, entry_line, entries_text, owner_name, cores_packed};
 
-use crate::line::{Line, push_decimal, push_hex, push_text};
+use crate::line::Line;
 use bao_config::Config;
 use bao_types::Region;
 use bao_wellformed::{Checked, has_core};
 use mpu_packer::Plan;
 use outside::{Sink, SinkFailed};
+use text_lines::{push_decimal, push_hex, push_text};
 
 /// Writes the packing of the cores, of which these are the first ones in order: each core with its entries, then `ok`.
 #[tactic(auto, using(outside::proofs::Puts::in_parts), unfolding(crate::specs::Packing::ok_line))]

@@ -3,12 +3,13 @@ ghost use Rattle.outside.specs.Sink.{Takes, HasCause};
 ghost use Rattle.bao_config.specs.Path.{path_of};
 ghost use Rattle.report.specs.Status.{refusal_text, is_refusal, file_text, why_text, ill_text, place_text, range_text, too_long_text, too_many_text, bad_schedule_text};
 
-use crate::line::{Line, push_decimal, push_short_hex, push_signed, push_text};
+use crate::line::Line;
 use crate::{FileId, Status, Why};
 use bao_config::Spot;
 use bao_types::ByteRange;
 use bao_wellformed::{Ill, NONE};
 use outside::{Sink, SinkFailed};
+use text_lines::{push_decimal, push_short_hex, push_signed, push_text};
 
 /// Writes the line of a refusal, by one put.
 pub fn write_refusal<K: Sink>(sink: &mut K, status: &Status) -> Result<(), SinkFailed>

@@ -2,7 +2,7 @@ ghost use Rattle.std.specs.Prelude.{◌≡◌, ℕ, ◌+◌, ◌*◌, ◌<◌, �
 ghost use Rattle.outside.specs.Sink.{Takes, HasCause};
 ghost use Rattle.board.specs.Ports.{outputs};
 ghost use Rattle.report.specs.Lines.{console_line};
-ghost use Rattle.report.specs.Digits.{hex_bytes};
+ghost use Rattle.text_lines.specs.Digits.{hex_bytes};
 ghost use Rattle.bao_types.specs.ByteRange.{address_space_end, end};
 ghost use Rattle.bao_config.specs.Config.{config_data};
 ghost use Rattle.bao_config.specs.Data.{vm_data};

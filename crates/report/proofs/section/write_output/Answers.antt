@@ -1,9 +1,9 @@
 use Rattle.std.proofs.Common.{rules, subst, arith, length, ◌≤◌}
 use Rattle.std.specs.Prelude.{IsErr}
 use Rattle.std.proofs.lemmas.Result.{MatchResult-from_err}
+use Rattle.numerals.specs.Hex.{hex}
 use Rattle.outside.specs.Sink.{TakesPart}
 use Rattle.board.specs.Ports.{outputs}
-use Rattle.report.specs.Digits.{hex}
 use Rattle.report.proofs.Texts.{bytes_stop, bytes_end}
 use Rattle.report.proofs.section.write_output.Goals as goal
 

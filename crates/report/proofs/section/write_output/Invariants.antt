@@ -1,6 +1,6 @@
 use Rattle.std.proofs.Common.{◌≡◌, drop}
 use Rattle.board.specs.Ports.{outputs}
-use Rattle.report.specs.Digits.{hex_bytes}
+use Rattle.text_lines.specs.Digits.{hex_bytes}
 use Rattle.report.proofs.Progress.{IsUnderWay}
 use Rattle.report.proofs.section.write_output.Given as goal
 
