@@ -1,6 +1,7 @@
 -- The numbers of the statuses, and the lines of the refusals. Each line ends with LF.
-use Rattle.std.specs.Prelude.{ℕ, List, [], ◌∷◌, ◌++◌, codes}
+use Rattle.std.specs.Prelude.{ℕ, List, [], ◌++◌, codes}
 use Rattle.std.specs.Fmt.{decimal}
+use Rattle.text_lines.specs.Newline.{newline}
 use Rattle.asm_run.specs.declared.status.AsmStatus.{AsmStatus}
 use Rattle.asm_run.specs.declared.status.AsmStatus.TheVariants.{Done, Usage, ReadFault, TooLong, WriteFault, OutOfMemory, BadLine, BadLength}
 
@@ -13,9 +14,6 @@ number_of WriteFault = 9
 number_of OutOfMemory = 10
 number_of (BadLine line rule) = 15
 number_of (BadLength len) = 16
-
-abbrev pub newline : List ℕ
-newline = 10 ∷ []
 
 -- the line of a refusal; the other two have none
 unfoldable pub refusal_text : AsmStatus → List ℕ

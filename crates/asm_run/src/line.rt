@@ -1,33 +1,16 @@
 //! The lines of refusals.
 ghost use Rattle.std.specs.Prelude.{◌≡◌, ◌+◌, ◌≤◌, ◌++◌, length};
 ghost use Rattle.std.specs.Fmt.{decimal};
-ghost use Rattle.asm_run.specs.Status.{refusal_text, newline};
+ghost use Rattle.text_lines.specs.Newline.{newline};
+ghost use Rattle.asm_run.specs.Status.{refusal_text};
 ghost use Rattle.asm_run.specs.declared.status.AsmStatus.TheVariants.{BadLine};
 
 use crate::status::AsmStatus;
 use arrayvec::ArrayVec;
+use text_lines::{push_decimal, push_text};
 
 /// A line of text that is being built.
 pub(crate) type Line = ArrayVec<u8, 64>;
-
-/// Appends a text.
-fn push_text(line: &mut Line, text: &[u8])
-    requires { length line.old.items + length text.now ≤ 64 }
-    ensures text { line.new.items ≡ line.old.items ++ text.now }
-    ensures len { length line.new.items ≡ length line.old.items + length text.now }
-{
-    let _ = line.try_extend_from_slice(text);
-}
-
-/// Appends a number: at most ten digits.
-fn push_decimal(line: &mut Line, number: u32)
-    requires { length line.old.items ≤ 54 }
-    ensures text { line.new.items ≡ line.old.items ++ decimal number }
-    ensures len { length line.new.items ≤ length line.old.items + 10 }
-{
-    let mut digits = itoa::Buffer::new();
-    push_text(line, digits.format(number).as_bytes());
-}
 
 /// The line of a refusal; the other statuses have none.
 #[tactic(auto, unfolding(crate::specs::Status::refusal_text))]
