@@ -1,7 +1,8 @@
 -- The report: a section for each VM, then `done`.
-use Rattle.std.specs.Prelude.{ℕ, zero, suc, ◌+◌, ◌==◌, ◌&&◌, nat_lt, Bool, true, false, not, if◌then◌else◌, List, [], ◌∷◌, ◌++◌, Option, None, Some, slice_get, codes}
+use Rattle.std.specs.Prelude.{ℕ, zero, suc, ◌+◌, ◌/◌, ◌==◌, ◌&&◌, nat_lt, Bool, true, false, not, if◌then◌else◌, List, [], ◌∷◌, ◌++◌, Option, None, Some, slice_get, codes}
 use Rattle.std.specs.List.{list_all}
 use Rattle.a64_state.specs.Core.{CoreData}
+use Rattle.bao_types.specs.ByteRange.{address_space_end}
 use Rattle.bao_config.specs.Data.{ConfigData, VmData}
 use Rattle.bao_config.specs.declared.config.Dev.{Dev}
 use Rattle.bao_wellformed.specs.declared.map.Kind.{Kind}
@@ -12,7 +13,7 @@ use Rattle.board.specs.View.{view_of}
 use Rattle.hypercalls.specs.declared.power.Power.{Power}
 use Rattle.hypercalls.specs.declared.power.Power.TheVariants.{On, Off, Parked}
 use Rattle.vm_model.specs.Flat.{Flat}
-use Rattle.board.specs.Ports.{outputs}
+use Rattle.board.specs.Ports.{console_count, outputs}
 use Rattle.report.specs.Lines.{vm_line, end_line, core_on_line, core_off_line, core_parked_line, console_line, memory_line, done_line}
 use Rattle.report.specs.Registers.{registers_text}
 
@@ -32,9 +33,9 @@ unfoldable pub cores_text : List Power → List CoreData → ℕ → List ℕ �
 cores_text powers cores j [] = []
 cores_text powers cores j (own ∷ owns) = core_text powers cores j own ++ cores_text powers cores (j + 1) owns
 
--- ports 0 to 7 are consoles
+-- the first ports are consoles
 abbrev pub is_console : ℕ → Bool
-is_console port = nat_lt port 8
+is_console port = nat_lt port console_count
 
 -- the VM's consoles, in the order of its devs
 unfoldable pub console_text : (ℕ → List ℕ) → Dev → List ℕ
@@ -69,9 +70,9 @@ unfoldable pub memory_text : (ℕ → Kind) → (ℕ → ℕ) → ℕ → ℕ �
 memory_text kinds bytes zero at = []
 memory_text kinds bytes (suc n) at = group_text kinds bytes at ++ memory_text kinds bytes n (at + 16)
 
--- the whole address space, 2^48 bytes
+-- those of the whole address space
 abbrev pub all_groups : ℕ
-all_groups = 0x100000000000
+all_groups = address_space_end / 16
 
 -- what the report shows of a VM
 unfoldable pub vm_text : ConfigData → Flat → VmData → List ℕ

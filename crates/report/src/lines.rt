@@ -1,4 +1,4 @@
-ghost use Rattle.std.specs.Prelude.{◌≡◌, ◌+◌, ◌*◌, ◌<◌, ◌≤◌, ◌++◌, length};
+ghost use Rattle.std.specs.Prelude.{◌≡◌, ◌≤◌, ◌++◌, length};
 ghost use Rattle.outside.specs.Sink.{Takes, HasCause};
 ghost use Rattle.report.specs.Lines.{vm_line, end_line, core_parked_line, register_line, nonzero_line, x_name, console_head, memory_line};
 ghost use Rattle.text_lines.specs.Newline.{newline};

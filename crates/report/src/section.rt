@@ -18,12 +18,9 @@ use arrayvec::ArrayVec;
 use bao_config::{Config, Dev, Vm};
 use bao_types::ADDRESS_SPACE_END;
 use bao_wellformed::{Kind, MapEntry, kind_in, map_of};
-use board::Board;
+use board::{Board, CONSOLES};
 use hypervisor::Hyp;
 use outside::{Sink, SinkFailed};
-
-/// The ports below this number are consoles.
-pub const CONSOLES: u8 = 8;
 
 /// How many groups of 16 bytes the address space has.
 const ALL_GROUPS: u64 = ADDRESS_SPACE_END / 16;

@@ -9,10 +9,9 @@ ghost use Rattle.hypervisor.specs.Hyp.{stands_for};
 ghost use Rattle.report.specs.Summary.{summary, vm_summary, summary_line, summary_head, summary_counts, first_x0, dev_output, joined_output, checksum};
 
 use crate::line::Line;
-use crate::section::CONSOLES;
 use bao_config::{Dev, Vm};
 use bao_wellformed::Checked;
-use board::Board;
+use board::{Board, CONSOLES};
 use hypervisor::Hyp;
 use outside::{Sink, SinkFailed};
 use text_lines::{push_hex, push_long_decimal, push_text};
