@@ -1,12 +1,10 @@
 -- What a text begins with: a number, or a line.
-use Rattle.std.proofs.Common.{◌≡◌, ℕ, ◌+◌, ◌-◌, ◌*◌, ◌/◌, ◌%◌, ◌^◌, ◌<◌, ◌≤◌, ◌==◌, false, List, [], ◌∷◌, ◌++◌, length, get_or, take, drop, sym, refl, ap, ◌∙◌, append_assoc, length-append, arith}
+use Rattle.std.proofs.Common.{◌≡◌, ℕ, ◌+◌, ◌-◌, ◌*◌, ◌/◌, ◌%◌, ◌^◌, ◌<◌, ◌≤◌, ◌==◌, false, List, [], ◌∷◌, ◌++◌, length, get_or, take, drop, sym, refl, ap, ◌∙◌, append_assoc, arith}
 use Rattle.std.specs.List.{All}
 use Rattle.std.specs.Fmt.{decimal}
 use Rattle.std.proofs.lemmas.Fmt.{decimal_digit, decimal_step, digits_decimal}
 use Rattle.std.proofs.lemmas.List.{take_all}
 use Rattle.std.proofs.lemmas.List.Elements.{All-cons, All-append}
-use Rattle.std.proofs.lemmas.List.Splits.{slice_split_at}
-use Rattle.schedule.specs.Parts.{parts}
 use Rattle.schedule.specs.Number.{BeginsWithNumber}
 use Rattle.schedule.specs.Line.{BeginsWithLine}
 use Rattle.schedule.specs.declared.line.Line.TheVariants.{Step}
@@ -87,13 +85,7 @@ whole_step : (text behind : List ℕ) (core count : ℕ) → core < 2 ^ 64 → c
 whole_step text behind core count low high is =
     record {
       line = step_line core count;
-      cut =
-          record {
-            cut =
-                ap (parts 10) is
-                ∙ slice_split_at (λ other. other == 10) (step_line core count) 10 behind (one_line core count low high) refl;
-            fewer = omega (arith, ap length is, length-append (step_line core count) (10 ∷ behind));
-          };
+      cut = record { joined = is; first = one_line core count low high };
       says =
           sym
           ((steps (step_line core count) core count).1 (record { core_fits = low; count_fits = high; spelled = refl }));

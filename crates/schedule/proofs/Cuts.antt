@@ -1,30 +1,21 @@
--- A text, cut at a byte.
-use Rattle.std.proofs.Common.{◌≡◌, ℕ, ◌+◌, ◌<◌, ◌==◌, List, ◌∷◌, length, take, drop, sym, ap, ◌∙◌, arith}
-use Rattle.std.specs.List.{position_or_len}
-use Rattle.std.proofs.lemmas.List.{length-drop}
-use Rattle.std.proofs.lemmas.List.Sums.{fails_before_first}
-use Rattle.std.proofs.lemmas.List.Splits.{slice_split_none, slice_split_first, length-slice_split}
-use Rattle.schedule.specs.Parts.{parts, IsWhole, IsCut}
+-- A text that is cut at a byte, in parts.
+use Rattle.std.proofs.Common.{◌≡◌, ℕ, ◌+◌, ◌<◌, ◌==◌, true, List, [], ◌∷◌, length, ap, ◌∙◌, arith}
+use Rattle.std.proofs.lemmas.Bool.Decides.{nat_tests}
+use Rattle.std.proofs.lemmas.List.Splits.{slice_split_none, slice_split_at, length-slice_split}
+use Rattle.text_lines.specs.Cut.{IsWhole, IsCut}
+use Rattle.schedule.specs.Parts.{parts}
 
--- at the first such byte
-pub cut_first : (byte : ℕ) (text front behind : List ℕ) (at : ℕ) → position_or_len (λ other. other == byte) text ≡ at
-    → at < length text → front ≡ take at text → behind ≡ drop (at + 1) text → IsCut byte text front behind
-cut_first byte text front behind at found low here there =
-    let p : ℕ → _ = λ other. other == byte in
-    record {
-      cut =
-          slice_split_first p text 0 (omega (arith, found, low))
-          ∙ ap (λ n. take n text ∷ parts byte (drop (n + 1) text)) found
-          ∙ ap (λ f. f ∷ parts byte (drop (at + 1) text)) (sym here)
-          ∙ ap (λ b. front ∷ parts byte b) (sym there);
-      fewer = omega (arith, low, length-drop (at + 1) text, ap length there);
-    }
+same_byte : (byte : ℕ) → (byte == byte) ≡ true
+same_byte byte = grind (arith, nat_tests)
 
--- where there is none
-pub whole : (byte : ℕ) (text : List ℕ) → position_or_len (λ other. other == byte) text ≡ length text → IsWhole byte text
-whole byte text none =
-    let p : ℕ → _ = λ other. other == byte in
-    slice_split_none p text (λ k d low. fails_before_first p text k d (omega (arith, none, low)))
+-- the part before the byte, and those after it
+pub in_parts : (byte : ℕ) (text front behind : List ℕ) → IsCut byte text front behind → parts byte text ≡ front ∷ parts byte behind
+in_parts byte text front behind cut =
+    ap (parts byte) cut.joined ∙ slice_split_at (λ other. other == byte) front byte behind cut.first (same_byte byte)
+
+-- one part alone, where the byte isn't there
+pub one : (byte : ℕ) (text : List ℕ) → IsWhole byte text → parts byte text ≡ text ∷ []
+one byte text none = slice_split_none (λ other. other == byte) text none
 
 -- there is at least one part
 pub some_part : (byte : ℕ) (text : List ℕ) → 0 < length (parts byte text)

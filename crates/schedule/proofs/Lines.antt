@@ -8,11 +8,12 @@ use Rattle.std.proofs.lemmas.Bool.Decides.{nat_tests}
 use Rattle.std.proofs.lemmas.List.Elements.{All-nil, All-cons}
 use Rattle.std.proofs.lemmas.List.Splits.{slice_split_none, join_with_byte-slice_split}
 use Rattle.std.proofs.lemmas.Fmt.{digits_decimal}
-use Rattle.schedule.specs.Parts.{parts, IsWhole, IsCut}
+use Rattle.text_lines.specs.Cut.{IsWhole, IsCut}
+use Rattle.schedule.specs.Parts.{parts}
 use Rattle.schedule.specs.Number.{number_of}
 use Rattle.schedule.specs.Line.{entry_of, entry_in, parts_of}
 use Rattle.schedule.specs.declared.line.Line.TheVariants.{BadForm}
-use Rattle.schedule.proofs.Cuts.{some_part}
+use Rattle.schedule.proofs.Cuts.{in_parts, one, some_part}
 use Rattle.schedule.proofs.Numbers.{own, number_is}
 
 -- no digit is a byte below all digits
@@ -62,16 +63,16 @@ behind_second kind first second (x ∷ y ∷ others) e =
 
 pub one_part : (text : List ℕ) → IsWhole 32 text → BadForm ≡ parts_of text
 unfolding parts_of
-one_part text whole = sym (ap entry_in whole)
+one_part text whole = sym (ap entry_in (one 32 text whole))
 
 pub more_parts : (text kind behind : List ℕ) → IsCut 32 text kind behind → entry_in (kind ∷ parts 32 behind) ≡ parts_of text
 unfolding parts_of
-more_parts text kind behind cut = sym (ap entry_in cut.cut)
+more_parts text kind behind cut = sym (ap entry_in (in_parts 32 text kind behind cut))
 
 pub two_parts : (kind behind : List ℕ) → IsWhole 32 behind → BadForm ≡ entry_in (kind ∷ parts 32 behind)
-two_parts kind behind whole = sym (ap (λ ps. entry_in (kind ∷ ps)) whole)
+two_parts kind behind whole = sym (ap (λ ps. entry_in (kind ∷ ps)) (one 32 behind whole))
 
 pub three_parts : (kind behind first second : List ℕ) → IsCut 32 behind first second
     → entry_of kind (number_of first) (number_of second) ≡ entry_in (kind ∷ parts 32 behind)
 three_parts kind behind first second cut =
-    sym (ap (λ ps. entry_in (kind ∷ ps)) cut.cut ∙ behind_second kind first second (parts 32 second) refl)
+    sym (ap (λ ps. entry_in (kind ∷ ps)) (in_parts 32 behind first second cut) ∙ behind_second kind first second (parts 32 second) refl)

@@ -6,20 +6,23 @@ use Rattle.std.proofs.lemmas.Bool.Decides.{nat_tests}
 use Rattle.std.proofs.lemmas.List.Elements.{All-nil, All-push}
 use Rattle.bao_types.specs.Shape.{event_limit}
 use Rattle.bao_config.specs.Data.{ConfigData}
-use Rattle.schedule.specs.Parts.{parts, IsWhole}
+use Rattle.text_lines.specs.Cut.{IsWhole}
+use Rattle.text_lines.specs.Rules.{unless_broken}
+use Rattle.text_lines.proofs.Cuts.{fewer}
+use Rattle.schedule.specs.Parts.{parts}
 use Rattle.schedule.specs.Line.{line_of, BeginsWithLine}
 use Rattle.hypervisor.specs.Event.{IsPlaced, is_core, is_assigned}
 use Rattle.hypervisor.specs.declared.event.Event.{Event}
 use Rattle.hypervisor.specs.declared.event.Event.TheVariants as event
 use Rattle.schedule.specs.Rules.{event_of, broken_rule}
-use Rattle.schedule.specs.Schedule.{Events, Broken, Reached, nothing_yet, count_behind, count_after, with_line, unless_bad, at_end, answer_from, schedule_of}
+use Rattle.schedule.specs.Schedule.{Events, Broken, Reached, nothing_yet, count_behind, count_after, with_line, at_end, answer_from, schedule_of}
 use Rattle.schedule.specs.Lawful.{NeverFall, IsLawful}
 use Rattle.schedule.specs.Answer.{TellsBroken, TakesLine, IsRefused}
 use Rattle.schedule.specs.declared.line.Line.{Line}
 use Rattle.schedule.specs.declared.line.Line.TheVariants.{NoEvent, Step, Input, BadForm}
 use Rattle.schedule.specs.declared.error.ScheduleError.{ScheduleError}
 use Rattle.schedule.specs.declared.error.ScheduleError.TheVariants.{Bad, OutOfMemory}
-use Rattle.schedule.proofs.Cuts.{some_part}
+use Rattle.schedule.proofs.Cuts.{in_parts, one, some_part}
 
 -- the count of the last step of these events
 abbrev pub last_of : ℕ → List Event → ℕ
@@ -115,34 +118,34 @@ begins cfg bytes =
 -- the first line decides, where something stands behind it
 next_line : (cfg : ConfigData) (reached : Reached) (line : List ℕ) (said : Line) (more : List (List ℕ)) → said ≡ line_of line
     → 0 < length more → answer_from cfg reached (line ∷ more)
-    ≡ unless_bad (reached.lines + 1) (broken_rule cfg reached.count (length reached.events) said)
+    ≡ unless_broken (Broken (reached.lines + 1)) (broken_rule cfg reached.count (length reached.events) said)
     (answer_from cfg (with_line said reached) more)
 unfolding answer_from
 next_line cfg reached line said [] says some = absurd (omega arith)
 next_line cfg reached line said (next ∷ others) says some =
-    ap (λ l. unless_bad (reached.lines + 1) (broken_rule cfg reached.count (length reached.events) l)
+    ap (λ l. unless_broken (Broken (reached.lines + 1)) (broken_rule cfg reached.count (length reached.events) l)
     (answer_from cfg (with_line l reached) (next ∷ others))) (sym says)
 
 module _ (cfg : ConfigData) (bytes : List ℕ) (reached : Reached) (rest : List ℕ) (said : Line) (others : List ℕ)
     (reading : IsReading cfg bytes reached rest) (first : BeginsWithLine rest said others) where
   at_line : schedule_of cfg bytes
-      ≡ unless_bad (reached.lines + 1) (broken_rule cfg reached.count (length reached.events) said)
+      ≡ unless_broken (Broken (reached.lines + 1)) (broken_rule cfg reached.count (length reached.events) said)
       (answer_from cfg (with_line said reached) (parts 10 others))
   at_line =
-      reading.left ∙ ap (answer_from cfg reached) first.cut.cut
+      reading.left ∙ ap (answer_from cfg reached) (in_parts 10 rest first.line others first.cut)
       ∙ next_line cfg reached first.line said (parts 10 others) first.says (some_part 10 others)
 
   by_rule : (rule : Option ℕ) → broken_rule cfg reached.count (length reached.events) said ≡ rule
-      → schedule_of cfg bytes ≡ unless_bad (reached.lines + 1) rule (answer_from cfg (with_line said reached) (parts 10 others))
+      → schedule_of cfg bytes ≡ unless_broken (Broken (reached.lines + 1)) rule (answer_from cfg (with_line said reached) (parts 10 others))
   by_rule rule is =
-      at_line ∙ ap (λ r. unless_bad (reached.lines + 1) r (answer_from cfg (with_line said reached) (parts 10 others))) is
+      at_line ∙ ap (λ r. unless_broken (Broken (reached.lines + 1)) r (answer_from cfg (with_line said reached) (parts 10 others))) is
 
   with_one : broken_rule cfg reached.count (length reached.events) said ≡ None
       → IsReading cfg bytes (with_line said reached) others
   with_one kept =
       record {
         left = by_rule None kept;
-        lines = omega (arith, reading.lines, first.cut.fewer);
+        lines = omega (arith, reading.lines, fewer 10 rest first.line others first.cut);
         so_far = lawful_after cfg reached said kept reading.so_far;
       }
 
@@ -173,7 +176,7 @@ module _ (cfg : ConfigData) (bytes : List ℕ) (reached : Reached) (rest : List 
     (whole : IsWhole 10 rest) where
   at_rest : schedule_of cfg bytes ≡ at_end reached rest
   unfolding answer_from
-  at_rest = reading.left ∙ ap (answer_from cfg reached) whole
+  at_rest = reading.left ∙ ap (answer_from cfg reached) (one 10 rest whole)
 
   pub ended : length rest ≡ 0 → schedule_of cfg bytes ≡ Events reached.events
   ended none = at_rest ∙ ap (at_end reached) (none_left rest none)

@@ -1,7 +1,9 @@
 -- What a line of a schedule says, before it is judged by a configuration.
 use Rattle.std.specs.Prelude.{◌≡◌, ℕ, ◌==◌, ◌&&◌, nat_le, if◌then◌else◌, List, [], ◌∷◌, Option, None, Some, codes}
 use Rattle.std.specs.Str.{bytes_eq}
-use Rattle.schedule.specs.Parts.{parts, IsCut}
+use Rattle.text_lines.specs.Ascii.{line_feed, blank, number_sign}
+use Rattle.text_lines.specs.Cut.{IsCut}
+use Rattle.schedule.specs.Parts.{parts}
 use Rattle.schedule.specs.Number.{number_of}
 use Rattle.schedule.specs.declared.line.Line.{Line}
 use Rattle.schedule.specs.declared.line.Line.TheVariants.{NoEvent, Step, Input, BadForm}
@@ -24,15 +26,15 @@ entry_in (kind ∷ first ∷ second ∷ other ∷ others) = BadForm
 
 -- the parts are those between the blanks
 unfoldable pub parts_of : List ℕ → Line
-parts_of text = entry_in (parts 32 text)
+parts_of text = entry_in (parts blank text)
 
--- an empty line is no event, and so is one that begins with `#`; 35 is its code
+-- an empty line is no event, and so is one that begins with `#`
 unfoldable pub line_of : List ℕ → Line
 line_of [] = NoEvent
-line_of (first ∷ rest) = if first == 35 then NoEvent else parts_of (first ∷ rest)
+line_of (first ∷ rest) = if first == number_sign then NoEvent else parts_of (first ∷ rest)
 
--- For private clauses: the first line of the text, which is ended by LF, 10, says this, and this stands behind that end.
+-- For private clauses: the first line of the text, which is ended by LF, says this, and this stands behind that end.
 pub record BeginsWithLine (text : List ℕ) (said : Line) (behind : List ℕ) : Type 0 where
   pub line : List ℕ
-  pub cut : IsCut 10 text line behind
+  pub cut : IsCut line_feed text line behind
   pub says : said ≡ line_of line

@@ -5,6 +5,7 @@ use Rattle.std.specs.Char.{is_ascii_digit}
 use Rattle.std.specs.Fmt.{decimal}
 use Rattle.std.specs.Str.{bytes_eq}
 use Rattle.std.specs.Str.Parse.{digits_value}
+use Rattle.numerals.specs.Numeral.{zero_digit}
 
 -- the number, where it fits 64 bits and the text is how it is written
 abbrev pub if_written : ℕ → List ℕ → Option ℕ
@@ -18,11 +19,11 @@ number_of text = if_written (digits_value 10 text) text
 abbrev pub is_numeral : List ℕ → Bool
 is_numeral text = nat_lt 0 (length text) && (list_all is_ascii_digit text && nat_lt (digits_value 10 text) (2 ^ 64))
 
--- a zero, 48, stands before another byte
+-- a zero stands before another byte
 abbrev pub is_padded : List ℕ → Bool
 is_padded [] = false
 is_padded (digit ∷ []) = false
-is_padded (first ∷ second ∷ others) = first == 48
+is_padded (first ∷ second ∷ others) = first == zero_digit
 
 -- For private clauses: the text begins with this number, as it is written, and this stands behind it.
 pub record BeginsWithNumber (text : List ℕ) (n : ℕ) (behind : List ℕ) : Type 0 where

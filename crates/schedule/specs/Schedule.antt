@@ -1,6 +1,8 @@
 -- The events that the bytes of a schedule say, or the first line that breaks a rule.
 use Rattle.std.specs.Prelude.{ℕ, ◌+◌, List, [], ◌∷◌, ◌++◌, length, Option, None, Some, option_to_list}
 use Rattle.bao_config.specs.Data.{ConfigData}
+use Rattle.text_lines.specs.Ascii.{line_feed}
+use Rattle.text_lines.specs.Rules.{unless_broken}
 use Rattle.schedule.specs.Parts.{parts}
 use Rattle.schedule.specs.Line.{line_of}
 use Rattle.schedule.specs.Rules.{event_of, broken_rule}
@@ -40,11 +42,6 @@ with_line line reached =
       lines = reached.lines + 1;
     }
 
--- a broken rule of this line, or what the later lines give
-abbrev pub unless_bad : ℕ → Option ℕ → ScheduleAnswer → ScheduleAnswer
-unless_bad line None later = later
-unless_bad line (Some rule) later = Broken line rule
-
 -- what is behind the last end of a line must be nothing, else it is a line of no form
 abbrev pub at_end : Reached → List ℕ → ScheduleAnswer
 at_end reached [] = Events reached.events
@@ -55,9 +52,9 @@ unfoldable pub answer_from : ConfigData → Reached → List (List ℕ) → Sche
 answer_from cfg reached [] = Events reached.events
 answer_from cfg reached (behind ∷ []) = at_end reached behind
 answer_from cfg reached (line ∷ next ∷ others) =
-    unless_bad (reached.lines + 1) (broken_rule cfg reached.count (length reached.events) (line_of line))
+    unless_broken (Broken (reached.lines + 1)) (broken_rule cfg reached.count (length reached.events) (line_of line))
     (answer_from cfg (with_line (line_of line) reached) (next ∷ others))
 
--- the lines are the parts between the bytes LF, which is 10
+-- the lines are the parts between the bytes LF
 unfoldable pub schedule_of : ConfigData → List ℕ → ScheduleAnswer
-schedule_of cfg bytes = answer_from cfg nothing_yet (parts 10 bytes)
+schedule_of cfg bytes = answer_from cfg nothing_yet (parts line_feed bytes)

@@ -5,7 +5,6 @@
 //! go with them, is generated here from one number.
 #![tactic(auto)]
 
-mod cut;
 mod error;
 mod generator;
 mod law;

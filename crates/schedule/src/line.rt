@@ -1,11 +1,12 @@
 //! What a line says.
 ghost use Rattle.std.specs.Prelude.{◌≡◌, ◌∷◌, IfSome, MatchOption};
-ghost use Rattle.schedule.specs.Parts.{parts, IsWhole};
+ghost use Rattle.text_lines.specs.Cut.{IsWhole};
+ghost use Rattle.schedule.specs.Parts.{parts};
 ghost use Rattle.schedule.specs.Number.{BeginsWithNumber};
 ghost use Rattle.schedule.specs.Line.{line_of, parts_of, entry_in, entry_of, BeginsWithLine};
 
-use crate::cut::cut_at;
 use crate::number::number;
+use text_lines::cut_at;
 
 /// What a line says, before it is judged by a configuration.
 #[derive(Clone, Copy)]
