@@ -14,9 +14,8 @@ use Rattle.vm_model.specs.Flat.{Flat}
 use Rattle.a64_state.specs.Core.{CoreData}
 use Rattle.hypercalls.specs.declared.power.Power.{Power}
 use Rattle.report.specs.Section.{core_text, cores_text, console_text, consoles_text, vm_text, sections}
-use Rattle.board.specs.declared.view.CoreView.{CoreView}
-use Rattle.report.specs.declared.registers.Named.{Named}
-use Rattle.report.specs.Registers.{named_line, named_text}
+use Rattle.report.specs.Lines.{nonzero_line}
+use Rattle.report.specs.Registers.{Named, nonzero_lines}
 use Rattle.report.specs.Packing.{entry_line, entries_text, packed_text, cores_packed}
 
 -- a loop that puts out piece by piece, with what is left said in its own words
@@ -43,17 +42,18 @@ pub cores_none : (powers : List Power) (all : List CoreData) (cores : List ℕ) 
 unfolding cores_text
 cores_none powers all cores j high = rw (drop_of_length-le cores high) refl
 
--- the registers of a core that have a name of their own
-pub named_next : (view : CoreView) (registers : List Named) (i : ℕ) (register : Named) → i < length registers → register ≡ get_or registers i register
-    → named_text view (drop i registers) ≡ named_line view register ++ named_text view (drop (i + 1) registers)
-unfolding named_text
-named_next view registers i register low at =
-    rw add-one (ap (named_text view) (drop-cons registers i register low)
-    ∙ ap (λ r. named_line view r ++ named_text view (drop (suc i) registers)) (sym at))
+-- named registers
+pub registers_next : {X : Type 0} (shown : X → Named) (registers : List X) (i : ℕ) (d : X) → i < length registers
+    → nonzero_lines (map shown (drop i registers))
+    ≡ nonzero_line (shown (get_or registers i d)).name (shown (get_or registers i d)).value
+    ++ nonzero_lines (map shown (drop (i + 1) registers))
+unfolding nonzero_lines
+registers_next shown registers i d low = rw (drop-cons registers i d low, add-one) refl
 
-pub named_none : (view : CoreView) (registers : List Named) (i : ℕ) → length registers ≤ i → named_text view (drop i registers) ≡ []
-unfolding named_text
-named_none view registers i high = rw (drop_of_length-le registers high) refl
+pub registers_none : {X : Type 0} (shown : X → Named) (registers : List X) (i : ℕ) → length registers ≤ i
+    → nonzero_lines (map shown (drop i registers)) ≡ []
+unfolding nonzero_lines
+registers_none shown registers i high = rw (drop_of_length-le registers high) refl
 
 -- its consoles
 pub consoles_next : (console : ℕ → List ℕ) (devs : List Dev) (i : ℕ) (dev : Dev) → i < length devs → dev ≡ get_or devs i dev

@@ -2,44 +2,32 @@
 use Rattle.std.specs.Prelude.{ℕ, ◌+◌, List, [], ◌∷◌, ◌++◌, codes}
 use Rattle.board.specs.declared.view.CoreView.{CoreView}
 use Rattle.report.specs.Lines.{nonzero_line, register_line, x_name}
-use Rattle.report.specs.declared.registers.Named.{Named}
-use Rattle.report.specs.declared.registers.Named.TheVariants.{SpEl0, SpEl1, Elr, Spsr, Esr, Far, Vbar, Sctlr}
 
--- the registers that are shown by a name of their own: a row a register
-abbrev pub name_of : Named → List ℕ
-name_of SpEl0 = codes "sp_el0"
-name_of SpEl1 = codes "sp_el1"
-name_of Elr = codes "elr_el1"
-name_of Spsr = codes "spsr_el1"
-name_of Esr = codes "esr_el1"
-name_of Far = codes "far_el1"
-name_of Vbar = codes "vbar_el1"
-name_of Sctlr = codes "sctlr_el1"
+-- a register with the name that it is shown by
+pub record Named : Type 0 where
+  pub name : List ℕ
+  pub value : ℕ
 
-abbrev pub value_of : CoreView → Named → ℕ
-value_of view SpEl0 = view.sp0
-value_of view SpEl1 = view.sp1
-value_of view Elr = view.elr
-value_of view Spsr = view.spsr
-value_of view Esr = view.esr
-value_of view Far = view.far
-value_of view Vbar = view.vbar
-value_of view Sctlr = view.sctlr
+abbrev pub named : List ℕ → ℕ → Named
+named name value = record { name = name; value = value }
 
--- in their order: the stack pointers before the general registers; after these what an exception returns to, what it says of its
--- cause, and what governs EL1
-abbrev pub before_general : List Named
-before_general = SpEl0 ∷ SpEl1 ∷ []
+-- of these registers those that aren't zero
+unfoldable pub nonzero_lines : List Named → List ℕ
+nonzero_lines [] = []
+nonzero_lines (register ∷ registers) = nonzero_line register.name register.value ++ nonzero_lines registers
 
-abbrev pub after_general : List Named
-after_general = Elr ∷ Spsr ∷ Esr ∷ Far ∷ Vbar ∷ Sctlr ∷ []
+-- the stack pointers
+abbrev pub stack_registers : CoreView → List Named
+stack_registers view = named (codes "sp_el0") view.sp0 ∷ (named (codes "sp_el1") view.sp1 ∷ [])
 
-unfoldable pub named_line : CoreView → Named → List ℕ
-named_line view register = nonzero_line (name_of register) (value_of view register)
-
-unfoldable pub named_text : CoreView → List Named → List ℕ
-named_text view [] = []
-named_text view (register ∷ registers) = named_line view register ++ named_text view registers
+-- what an exception returns to, what it says of its cause, and what governs EL1
+abbrev pub exception_registers : CoreView → List Named
+exception_registers view =
+    named (codes "elr_el1") view.elr
+    ∷ (named (codes "spsr_el1") view.spsr
+    ∷ (named (codes "esr_el1") view.esr
+    ∷ (named (codes "far_el1") view.far
+    ∷ (named (codes "vbar_el1") view.vbar ∷ (named (codes "sctlr_el1") view.sctlr ∷ [])))))
 
 -- the general registers from a number on
 unfoldable pub general_text : ℕ → List ℕ → List ℕ
@@ -47,9 +35,8 @@ general_text n [] = []
 general_text n (value ∷ values) = nonzero_line (x_name n) value ++ general_text (n + 1) values
 
 -- PC and PSTATE, and of all others those that aren't zero
-unfoldable pub state_text : CoreView → List ℕ
-state_text view =
-    register_line (codes "pc") 16 view.pc ++ (register_line (codes "pstate") 8 view.pstate ++ named_text view before_general)
-
 unfoldable pub registers_text : CoreView → List ℕ
-registers_text view = state_text view ++ (general_text 0 view.x ++ named_text view after_general)
+registers_text view =
+    register_line (codes "pc") 16 view.pc
+    ++ (register_line (codes "pstate") 8 view.pstate
+    ++ (nonzero_lines (stack_registers view) ++ (general_text 0 view.x ++ nonzero_lines (exception_registers view))))
