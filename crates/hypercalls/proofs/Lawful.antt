@@ -1,5 +1,5 @@
 -- What each service asks for is the VM's own.
-use Rattle.std.proofs.Common.{◌≡◌, ℕ, ◌||◌, zero, suc, ◌<◌, ◌==◌, ◌^◌, ◌%◌, nat_lt, Bool, true, false, cond, List, [], ◌∷◌, Option, None, Some, length, slice_get, slice_index_or, refl, ap, ◌∙◌, arith}
+use Rattle.std.proofs.Common.{◌≡◌, ℕ, ◌||◌, zero, suc, ◌<◌, ◌==◌, ◌^◌, ◌%◌, nat_lt, Bool, true, false, cond, List, [], ◌∷◌, Option, None, Some, length, slice_get, refl, ap, ◌∙◌, arith}
 use Rattle.std.specs.List.{list_any}
 use Rattle.std.specs.Option.{option_map_or}
 use Rattle.std.proofs.lemmas.Bool.{eq-eqb}
@@ -13,7 +13,7 @@ use Rattle.hypercalls.specs.declared.power.Power.{Power}
 use Rattle.hypercalls.specs.declared.power.Power.TheVariants as power
 use Rattle.hypercalls.specs.declared.service.Service.{Service}
 use Rattle.hypercalls.specs.declared.service.Service.TheVariants.{Ring, Version, CpuOff, CpuOn, AffinityInfo, SystemOff}
-use Rattle.hypercalls.specs.Calls.{affinity_info, call_in, cpu_on, doorbell, invalid_parameters, outcome_of, power_in, service_of, told_of}
+use Rattle.hypercalls.specs.Calls.{affinity_info, call_in, cpu_on, doorbell, invalid_parameters, outcome_of, power_in, service_of, told_of, x_in}
 use Rattle.hypercalls.specs.declared.outcome.Outcome.TheVariants as outcome
 use Rattle.hypercalls.specs.Laws.{IsLawful, OutcomesLawful}
 
@@ -78,20 +78,18 @@ module _ (cfg : ConfigData) (v : ℕ) (powers : List Power) (vm : VmData) (is : 
       by_test true = tt
       by_test false = tt
 
-  lawful_service : (o : Option Service) (x1 x2 x3 : ℕ) → IsLawful cfg v powers (outcome_of cfg vm powers o x1 x2 x3)
-  lawful_service None x1 x2 x3 = tt
-  lawful_service (Some Ring) x1 x2 x3 = lawful_ring x1 (slice_get vm.ipcs x1) x2 refl
-  lawful_service (Some Version) x1 x2 x3 = tt
-  lawful_service (Some CpuOff) x1 x2 x3 = tt
-  lawful_service (Some CpuOn) x1 x2 x3 = lawful_start x1 x2 x3
-  lawful_service (Some AffinityInfo) x1 x2 x3 = lawful_info (power_in vm powers x1) x2
-  lawful_service (Some SystemOff) x1 x2 x3 = tt
+  lawful_service : (o : Option Service) (regs : List ℕ) → IsLawful cfg v powers (outcome_of cfg vm powers o regs)
+  lawful_service None regs = tt
+  lawful_service (Some Ring) regs = lawful_ring (x_in regs 1) (slice_get vm.ipcs (x_in regs 1)) (x_in regs 2) refl
+  lawful_service (Some Version) regs = tt
+  lawful_service (Some CpuOff) regs = tt
+  lawful_service (Some CpuOn) regs = lawful_start (x_in regs 1) (x_in regs 2) (x_in regs 3)
+  lawful_service (Some AffinityInfo) regs = lawful_info (power_in vm powers (x_in regs 1)) (x_in regs 2)
+  lawful_service (Some SystemOff) regs = tt
 
 pub outcomes_lawful : OutcomesLawful
 outcomes_lawful cfg v powers regs = by_vm (slice_get cfg.vms v) refl
   where
     by_vm : (o : Option VmData) → slice_get cfg.vms v ≡ o → IsLawful cfg v powers (call_in cfg o powers regs)
     by_vm None is = tt
-    by_vm (Some vm) is =
-        lawful_service cfg v powers vm is (service_of (slice_index_or regs 0 0 % 2 ^ 32))
-        (slice_index_or regs 1 0) (slice_index_or regs 2 0) (slice_index_or regs 3 0)
+    by_vm (Some vm) is = lawful_service cfg v powers vm is (service_of (x_in regs 0 % 2 ^ 32)) regs

@@ -79,22 +79,24 @@ affinity_info None level = outcome.Answer invalid_parameters
 affinity_info (Some power) level =
     if level == 0 then outcome.Answer (told_of power) else outcome.Answer invalid_parameters
 
--- what comes of a service that is asked for with x1 to x3
-abbrev pub outcome_of : ConfigData → VmData → List Power → Option Service → ℕ → ℕ → ℕ → Outcome
-outcome_of cfg vm powers (Some Ring) x1 x2 x3 = doorbell cfg (slice_get vm.ipcs x1) x2
-outcome_of cfg vm powers (Some Version) x1 x2 x3 = outcome.Answer version
-outcome_of cfg vm powers (Some CpuOff) x1 x2 x3 = outcome.Off
-outcome_of cfg vm powers (Some CpuOn) x1 x2 x3 = cpu_on (power_in vm powers x1) x1 x2 x3
-outcome_of cfg vm powers (Some AffinityInfo) x1 x2 x3 = affinity_info (power_in vm powers x1) x2
-outcome_of cfg vm powers (Some SystemOff) x1 x2 x3 = outcome.SystemOff
-outcome_of cfg vm powers None x1 x2 x3 = outcome.Answer not_supported
+-- a register of a call, by its number
+abbrev pub x_in : List ℕ → ℕ → ℕ
+x_in regs n = slice_index_or regs n 0
 
--- the same with all four registers, of which the first names the service by its low 32 bits
+-- what comes of a service that is asked for with these registers
+abbrev pub outcome_of : ConfigData → VmData → List Power → Option Service → List ℕ → Outcome
+outcome_of cfg vm powers (Some Ring) regs = doorbell cfg (slice_get vm.ipcs (x_in regs 1)) (x_in regs 2)
+outcome_of cfg vm powers (Some Version) regs = outcome.Answer version
+outcome_of cfg vm powers (Some CpuOff) regs = outcome.Off
+outcome_of cfg vm powers (Some CpuOn) regs = cpu_on (power_in vm powers (x_in regs 1)) (x_in regs 1) (x_in regs 2) (x_in regs 3)
+outcome_of cfg vm powers (Some AffinityInfo) regs = affinity_info (power_in vm powers (x_in regs 1)) (x_in regs 2)
+outcome_of cfg vm powers (Some SystemOff) regs = outcome.SystemOff
+outcome_of cfg vm powers None regs = outcome.Answer not_supported
+
+-- the same of the registers alone, of which x0 names the service by its low 32 bits
 abbrev pub call_in : ConfigData → Option VmData → List Power → List ℕ → Outcome
 call_in cfg None powers regs = outcome.Answer not_supported
-call_in cfg (Some vm) powers regs =
-    outcome_of cfg vm powers (service_of (slice_index_or regs 0 0 % 2 ^ 32))
-    (slice_index_or regs 1 0) (slice_index_or regs 2 0) (slice_index_or regs 3 0)
+call_in cfg (Some vm) powers regs = outcome_of cfg vm powers (service_of (x_in regs 0 % 2 ^ 32)) regs
 
 -- a call of the VM at a place
 abbrev pub call_of : ConfigData → ℕ → List Power → List ℕ → Outcome

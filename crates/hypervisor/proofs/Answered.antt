@@ -25,7 +25,6 @@ use Rattle.vgic_table.specs.declared.id_state.IdState.{IdState}
 use Rattle.vgic_table.specs.Changes.{masked}
 use Rattle.vgic_table.specs.Cores.{AreTidy, joined_cores}
 use Rattle.vgic_table.specs.Interrupts.{Interrupts, quiet_interrupts, state_of, tables_of}
-use Rattle.vgic_table.specs.Registers.{joined}
 use Rattle.vgic_table.specs.Shape.{IsShaped}
 use Rattle.vgic_table.proofs.CoresLemmas.{all_free}
 use Rattle.vgic_table.proofs.StateLemmas.{shaped-with}
@@ -36,13 +35,13 @@ use Rattle.vm_model.specs.Interrupts.{with_table}
 use Rattle.vm_model.specs.Project.{joined_tables, lists_of}
 use Rattle.hypervisor.specs.Change.{Change}
 use Rattle.hypervisor.specs.Hyp.{HypData}
-use Rattle.hypervisor.specs.Seat.{IsSeat}
+use Rattle.hypervisor.specs.Seat.{IsSeat, taken_back}
 use Rattle.hypervisor.specs.declared.seat.Seat.{Seat}
 use Rattle.hypervisor.specs.Taken.{IsLeft, guests_of, with_registers}
 use Rattle.hypervisor.specs.Tidy.{AreHeld, Tidy, core_counts}
+use Rattle.hypervisor.proofs.Back.{all_back, held_back}
 use Rattle.hypervisor.proofs.Calls.{table_there}
 use Rattle.hypervisor.proofs.Left.{left_guests, left_same, left_then, left_tidy}
-use Rattle.hypervisor.proofs.Moves.{Hold, collected}
 use Rattle.hypervisor.proofs.Seats.{on_platform}
 
 -- what an access keeps of a table: for how many cores it is, and its shape
@@ -229,28 +228,14 @@ left_core cfg old new before between after guests left core f after_is = record 
 -- one core's registers are taken back
 pub left_back : (cfg : ConfigData) → IsWellFormed cfg → ConfigFits cfg → (old new : HypData) (before after : Machine) → Tidy cfg old before
     → (seat : Seat) → IsSeat cfg seat → after ≡ with_lists before seat.core free_registers → new.powers ≡ old.powers
-    → new.tables ≡ slice_set old.tables seat.vm (joined (tables_of old.tables seat.vm) seat.own (lists_at before.lists seat.core))
+    → new.tables ≡ slice_set old.tables seat.vm (taken_back old.tables before.lists seat)
     → IsLeft cfg (record { old = old; new = new; before = before; after = after }) (guests_of cfg old before)
 left_back cfg well_formed fits old new before after tidy seat is state powers tables = record {
   state = state ∙ ap (with_registers before before.cores) (sym (ap (λ (m : Machine). m.lists) state));
   powers = powers;
-  tables =
-      ap (λ ts. joined_tables cfg after.lists (tables_of ts)) tables
-      ∙ ap (λ (m : Machine). joined_tables cfg m.lists (tables_of back)) state ∙ holds.all_is;
-  held =
-      subst (λ ts. AreHeld cfg ts after.lists) (sym tables)
-      (subst (λ (m : Machine). AreHeld cfg back m.lists) (sym state) holds.held);
+  tables = all_back cfg well_formed fits old new before after tidy seat is tables (ap (λ (m : Machine). m.lists) state);
+  held = held_back cfg well_formed fits old new before after tidy seat is tables (ap (λ (m : Machine). m.lists) state);
 }
-  where
-    back : List Interrupts
-    back = slice_set old.tables seat.vm (joined (tables_of old.tables seat.vm) seat.own (lists_at before.lists seat.core))
-
-    low : seat.core < length before.lists
-    low =
-        let on = on_platform cfg old before well_formed tidy seat is in let count = tidy.held.registers in omega (arith, on, count)
-
-    holds : Hold cfg back (slice_set before.lists seat.core free_registers) (joined_tables cfg before.lists (tables_of old.tables))
-    holds = collected cfg well_formed fits seat.vm seat.own seat.core is.vm is.place is.core old.tables before.lists tidy.held low
 
 -- the registers of a VM's cores below a number are taken back
 pub record AreBack (cfg : ConfigData) (v : ℕ) (change : Change) (n : ℕ) : Type 0 where
@@ -269,7 +254,7 @@ module _ (cfg : ConfigData) (v : ℕ) (old : HypData) (before : Machine) (tidy :
 
     pub back_next : IsWellFormed cfg → ConfigFits cfg → (new : HypData) (after : Machine) (seat : Seat) → IsSeat cfg seat → seat.vm ≡ v
         → seat.own ≡ n → after ≡ with_lists between seat.core free_registers → new.powers ≡ mid.powers
-        → new.tables ≡ slice_set mid.tables seat.vm (joined (tables_of mid.tables seat.vm) seat.own (lists_at between.lists seat.core))
+        → new.tables ≡ slice_set mid.tables seat.vm (taken_back mid.tables between.lists seat)
         → AreBack cfg v (record { old = old; new = new; before = before; after = after }) (n + 1)
     back_next well_formed fits new after seat is vm_is own_is state powers tables = record {
       left =

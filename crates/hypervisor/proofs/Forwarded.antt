@@ -20,7 +20,7 @@ use Rattle.vgic_table.specs.Shape.{IsShaped}
 use Rattle.vgic_table.proofs.OthersLemmas.{others-shaped}
 use Rattle.vgic_table.proofs.PendedLemmas.{made_pending-at, pended-both, pended-none, pended-same}
 use Rattle.vgic_table.proofs.StateLemmas.{place-within}
-use Rattle.vm_model.specs.Flat.{Flat, flat_forwarded, has_dev}
+use Rattle.vm_model.specs.Flat.{Flat, flat_forwarded, has_dev, raised_for}
 use Rattle.vm_model.specs.Guests.{Tables}
 use Rattle.vm_model.specs.Interrupts.{is_line_at, stands_at, virtual_number, with_table}
 use Rattle.vm_model.specs.Project.{is_port_raised, joined_tables, lists_of}
@@ -34,7 +34,7 @@ use Rattle.hypervisor.specs.Tidy.{AreHeld, Tidy, quieted}
 use Rattle.hypervisor.proofs.Held.{is_core}
 use Rattle.hypervisor.proofs.Moves.{line_bound}
 use Rattle.hypervisor.proofs.Raised.{AreLinesOf, after_ack-length, after_ack-quieted, is_timer_raised}
-use Rattle.hypervisor.proofs.RaisedTaken.{IsQuiet, IsTaken, has_core_at, line_taken, quiet_lines_of}
+use Rattle.hypervisor.proofs.RaisedTaken.{IsQuiet, IsTaken, board_lines, has_core_at, line_taken, quiet_lines_of}
 use Rattle.hypervisor.proofs.Seats.{on_platform, owner_of_seat}
 
 -- a hypervisor and a board belong together still, where the parts are as before that a core's step or an interrupt leaves
@@ -86,7 +86,7 @@ down_here false here down = refl
 abbrev forwarded_by : ConfigData → Option ℕ → Option VmData → ℕ → ℕ → Flat → Flat
 forwarded_by cfg place owned number core f =
     record f {
-      tables = with_table place (pended_at (is_line_at cfg owned number (f.timer_lines core) f.port_lines)) f.tables;
+      tables = with_table place (pended_at (is_line_at cfg owned number (raised_for f core))) f.tables;
       timer_lines = λ other. f.timer_lines other && not (other == core);
       port_lines = λ port. f.port_lines port && not (has_dev port owned);
     }
@@ -104,15 +104,15 @@ module _ (cfg : ConfigData) (seat : Seat) (is : IsSeatOf cfg seat.core seat) whe
   -- where no line of the VM is raised for the core, nothing is forwarded
   pub quiet_forwarded : (f : Flat) → f.timer_lines seat.core ≡ false
       → ((port : ℕ) → IsTrue (has_port port is.is.vm) → f.port_lines port ≡ false)
-      → ((at : ℕ) → is_line_at cfg (Some is.is.vm) seat.own (f.timer_lines seat.core) f.port_lines at ≡ false)
+      → ((at : ℕ) → is_line_at cfg (Some is.is.vm) seat.own (raised_for f seat.core) at ≡ false)
       → flat_forwarded cfg f seat.core ≡ f
   quiet_forwarded f timer ports none =
       forwarded_is f ∙ (λ i. record f { tables = tables i; timer_lines = λ other. timers other i; port_lines = λ port. down port i })
     where
-      tables : with_table (Some seat.vm) (pended_at (is_line_at cfg (Some is.is.vm) seat.own (f.timer_lines seat.core) f.port_lines)) f.tables
+      tables : with_table (Some seat.vm) (pended_at (is_line_at cfg (Some is.is.vm) seat.own (raised_for f seat.core))) f.tables
           ≡ f.tables
-      tables = with_table-none seat.vm (pended_at (is_line_at cfg (Some is.is.vm) seat.own (f.timer_lines seat.core) f.port_lines)) f.tables
-          (λ table. pended-none table (is_line_at cfg (Some is.is.vm) seat.own (f.timer_lines seat.core) f.port_lines) none)
+      tables = with_table-none seat.vm (pended_at (is_line_at cfg (Some is.is.vm) seat.own (raised_for f seat.core))) f.tables
+          (λ table. pended-none table (is_line_at cfg (Some is.is.vm) seat.own (raised_for f seat.core)) none)
 
       timers : (other : ℕ) → (f.timer_lines other && not (other == seat.core)) ≡ f.timer_lines other
       timers other =
@@ -176,7 +176,7 @@ module _ (cfg : ConfigData) (seat : Seat) (is : IsSeatOf cfg seat.core seat) whe
       irq = irq_of_line cfg is.is.vm intid
 
       abbrev lines_at : LinesData → ℕ → Bool
-      lines_at lines = is_line_at cfg (Some is.is.vm) seat.own (is_timer_raised lines seat.core) (is_port_raised lines.ports)
+      lines_at lines = is_line_at cfg (Some is.is.vm) seat.own (board_lines lines seat.core)
 
       table_taken : pended_at (lines_at left_lines) (pended_for seat.own irq (all seat.vm)) ≡ pended_at (lines_at m.lines) (all seat.vm)
       table_taken =

@@ -1,9 +1,9 @@
 -- What the parts of an event leave, one after another: hypervisor and board still belong to the configuration.
-use Rattle.std.proofs.Common.{◌≡◌, ◌≢◌, ℕ, zero, suc, ◌+◌, ◌<◌, ◌==◌, ◌≤◌, Bool, true, false, List, [], ◌∷◌, length, map, refl, sym, ap, subst, ◌∙◌, arith}
+use Rattle.std.proofs.Common.{◌≡◌, ◌≢◌, ℕ, zero, suc, ◌+◌, ◌==◌, ◌≤◌, Bool, true, false, List, [], ◌∷◌, length, map, refl, sym, ap, subst, ◌∙◌, arith}
 use Rattle.std.specs.Prelude.{nat_lt, if◌then◌else◌, Some, slice_get, slice_index, slice_set}
 use Rattle.std.proofs.lemmas.Bool.{eq-eqb, eqb-true}
 use Rattle.std.proofs.lemmas.Bool.Decides.{nat_tests}
-use Rattle.bao_types.specs.ListReg.{free_registers, lists_at}
+use Rattle.bao_types.specs.ListReg.{free_registers}
 use Rattle.a64_state.specs.Core.{CoreData}
 use Rattle.bao_config.specs.Data.{ConfigData}
 use Rattle.bao_config.specs.Fits.{ConfigFits}
@@ -14,19 +14,18 @@ use Rattle.hypercalls.specs.declared.power.Power.{Power}
 use Rattle.hypercalls.specs.declared.power.Power.TheVariants.{On}
 use Rattle.shared_windows.specs.Windows.{irq_of, is_member}
 use Rattle.vgic_table.specs.Interrupts.{Interrupts, tables_of}
-use Rattle.vgic_table.specs.Registers.{joined}
 use Rattle.vm_model.specs.Duty.{cores_of, pended, rung, started, turned_on}
 use Rattle.vm_model.specs.Guests.{Guests, Tables}
 use Rattle.vm_model.specs.Interrupts.{with_table}
 use Rattle.vm_model.specs.Project.{joined_tables}
 use Rattle.hypervisor.specs.Hyp.{HypData}
-use Rattle.hypervisor.specs.Seat.{IsSeat}
+use Rattle.hypervisor.specs.Seat.{IsSeat, taken_back}
 use Rattle.hypervisor.specs.declared.seat.Seat.{Seat}
 use Rattle.hypervisor.specs.Shape.{shape_of}
 use Rattle.hypervisor.specs.Taken.{IsLeft, guests_of, with_registers}
 use Rattle.hypervisor.specs.Tidy.{AreHeld, Tidy, quieted}
+use Rattle.hypervisor.proofs.Back.{all_back, held_back}
 use Rattle.hypervisor.proofs.Calls.{all_heard, one_more_heard, starts_alike}
-use Rattle.hypervisor.proofs.Moves.{Hold, collected}
 use Rattle.hypervisor.proofs.Seats.{on_platform}
 
 -- hypervisor and board belong to the configuration still
@@ -88,7 +87,7 @@ left_powers cfg old new m powers tidy given kept = record {
 pub left_on : (cfg : ConfigData) → IsWellFormed cfg → ConfigFits cfg → (old new : HypData) (before after : Machine) → Tidy cfg old before
     → (seat : Seat) → IsSeat cfg seat → (start arg : ℕ) → after ≡ restarted before seat.core start arg
     → new.powers ≡ slice_set old.powers seat.core On
-    → new.tables ≡ slice_set old.tables seat.vm (joined (tables_of old.tables seat.vm) seat.own (lists_at before.lists seat.core))
+    → new.tables ≡ slice_set old.tables seat.vm (taken_back old.tables before.lists seat)
     → IsLeft cfg (record { old = old; new = new; before = before; after = after })
     (turned_on cfg seat.core start arg (guests_of cfg old before))
 left_on cfg well_formed fits old new before after tidy seat is start arg state powers tables = record {
@@ -99,23 +98,9 @@ left_on cfg well_formed fits old new before after tidy seat is start arg state p
       ∙ ap (λ lists. with_registers before (slice_set before.cores seat.core (started cfg seat.core start arg)) lists)
       (sym (ap (λ (m : Machine). m.lists) state));
   powers = powers;
-  tables =
-      ap (λ ts. joined_tables cfg after.lists (tables_of ts)) tables
-      ∙ ap (λ (m : Machine). joined_tables cfg m.lists (tables_of back)) state ∙ holds.all_is;
-  held =
-      subst (λ ts. AreHeld cfg ts after.lists) (sym tables)
-      (subst (λ (m : Machine). AreHeld cfg back m.lists) (sym state) holds.held);
+  tables = all_back cfg well_formed fits old new before after tidy seat is tables (ap (λ (m : Machine). m.lists) state);
+  held = held_back cfg well_formed fits old new before after tidy seat is tables (ap (λ (m : Machine). m.lists) state);
 }
-  where
-    back : List Interrupts
-    back = slice_set old.tables seat.vm (joined (tables_of old.tables seat.vm) seat.own (lists_at before.lists seat.core))
-
-    low : seat.core < length before.lists
-    low =
-        let on = on_platform cfg old before well_formed tidy seat is in let count = tidy.held.registers in omega (arith, on, count)
-
-    holds : Hold cfg back (slice_set before.lists seat.core free_registers) (joined_tables cfg before.lists (tables_of old.tables))
-    holds = collected cfg well_formed fits seat.vm seat.own seat.core is.vm is.place is.core old.tables before.lists tidy.held low
 
 -- the physical core of a seat
 pub seat_core : (cfg : ConfigData) (seat : Seat) → IsSeat cfg seat → (v own : ℕ) → seat.vm ≡ v → seat.own ≡ own

@@ -7,6 +7,7 @@ pub mod Calls
 pub mod Seats
 pub mod Held
 pub mod Moves
+pub mod Back
 pub mod Left
 pub mod Carried
 pub mod Settled

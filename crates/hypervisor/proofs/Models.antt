@@ -1,6 +1,6 @@
 -- What holds of a board that belongs to a configuration, and of what the hypervisor does.
 use Rattle.std.proofs.Common.{◌≡◌, ℕ, ◌<◌, Bool, true, List, [], ◌∷◌, map, length, length-set, refl, sym, subst, ap, ◌∙◌, arith}
-use Rattle.std.specs.Prelude.{IsTrue, ◌||◌, ◌==◌, not, Option, slice_get, slice_index, slice_set}
+use Rattle.std.specs.Prelude.{IsTrue, ◌||◌, ◌==◌, not, Option, slice_index, slice_set}
 use Rattle.std.specs.List.{enumerate_from, list_any}
 use Rattle.std.proofs.lemmas.Bool.{eqb-true, not-false}
 use Rattle.std.proofs.lemmas.Bool.Decides.{nat_tests}
@@ -22,7 +22,7 @@ use Rattle.hypercalls.specs.declared.outcome.Outcome as calls
 use Rattle.hypercalls.specs.declared.outcome.Outcome.TheVariants as call
 use Rattle.hypercalls.specs.declared.power.Power.{Power}
 use Rattle.hypercalls.specs.declared.power.Power.TheVariants.{On, Off, Parked}
-use Rattle.vm_model.specs.Duty.{Duty, Nothing, Park, Call, Emulate, Send, all_off, carried, cores_of, done, with_answer}
+use Rattle.vm_model.specs.Duty.{Duty, Nothing, Park, Call, Emulate, Send, Caller, all_off, caller_of, carried, done, with_answer}
 use Rattle.vm_model.specs.Guests.{Guests}
 use Rattle.hypervisor.specs.Hyp.{HypData}
 use Rattle.hypervisor.specs.Packed.{ArePacked}
@@ -88,17 +88,17 @@ off_length [] powers = refl
 off_length (core ∷ cores) powers = off_length cores (slice_set powers core Off) ∙ length-set powers core Off
 
 module _ (cfg : ConfigData) (core : ℕ) (guests : Guests) where
-  carried_length : (v : ℕ) (cores : List ℕ) (smc : Bool) (answer : Option ℕ) (outcome : calls.Outcome)
-      → length (carried cfg v cores core outcome (with_answer core smc answer guests)).powers ≡ length guests.powers
-  carried_length v cores smc answer (call.Answer value) = refl
-  carried_length v cores smc answer (call.Ring shmem event) = refl
-  carried_length v cores smc answer call.Off = length-set guests.powers core Off
-  carried_length v cores smc answer (call.On own entry arg) = length-set guests.powers (slice_index cores own) On
-  carried_length v cores smc answer call.SystemOff = off_length cores guests.powers
+  carried_length : (caller : Caller) (smc : Bool) (answer : Option ℕ) (outcome : calls.Outcome)
+      → length (carried cfg caller outcome (with_answer core smc answer guests)).powers ≡ length guests.powers
+  carried_length caller smc answer (call.Answer value) = refl
+  carried_length caller smc answer (call.Ring shmem event) = refl
+  carried_length caller smc answer call.Off = length-set guests.powers caller.core Off
+  carried_length caller smc answer (call.On own entry arg) = length-set guests.powers (slice_index caller.cores own) On
+  carried_length caller smc answer call.SystemOff = off_length caller.cores guests.powers
 
   pub done_length : (duty : Duty) → length (done cfg core duty guests).powers ≡ length guests.powers
   done_length Nothing = refl
   done_length (Park esr far) = length-set guests.powers core (Parked esr far)
-  done_length (Call v smc outcome) = carried_length v (cores_of (slice_get cfg.vms v)) smc (answer_of outcome) outcome
+  done_length (Call v smc outcome) = carried_length (caller_of cfg v core) smc (answer_of outcome) outcome
   done_length (Emulate v access) = refl
   done_length (Send v own value) = refl

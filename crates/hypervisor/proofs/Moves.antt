@@ -24,7 +24,7 @@ use Rattle.vm_model.specs.Interrupts.{with_table}
 use Rattle.vm_model.specs.Project.{joined_tables}
 use Rattle.hypervisor.specs.declared.seat.Seat.{Seat}
 use Rattle.hypervisor.specs.Hyp.{HypData}
-use Rattle.hypervisor.specs.Seat.{IsSeat, holder_of, irq_of_line}
+use Rattle.hypervisor.specs.Seat.{IsSeat, holder_of, irq_of_line, taken_back}
 use Rattle.hypervisor.specs.Taken.{IsLeft, guests_of, with_registers}
 use Rattle.hypervisor.specs.Tidy.{AreHeld, Tidy}
 use Rattle.hypervisor.proofs.Seats.{on_platform}
@@ -142,7 +142,7 @@ pub left_by_change : (cfg : ConfigData) → IsWellFormed cfg → ConfigFits cfg 
     → (seat : Seat) (is : IsSeat cfg seat) (v own id : ℕ) (f : IdState → IdState) → seat.vm ≡ v → seat.own ≡ holder_of own id → id < 96
     → after ≡ with_lists before seat.core free_registers → new.powers ≡ old.powers
     → new.tables ≡ slice_set old.tables seat.vm
-    (change_at (joined (tables_of old.tables seat.vm) seat.own (lists_at before.lists seat.core)) seat.own id f)
+    (change_at (taken_back old.tables before.lists seat) seat.own id f)
     → IsLeft cfg (record { old = old; new = new; before = before; after = after })
     (record (guests_of cfg old before) {
       tables = with_table (Some v) (λ table. change_at table own id f) (guests_of cfg old before).tables;
@@ -164,7 +164,7 @@ left_by_change cfg well_formed fits old new before after tidy seat is v own id f
     next : List Interrupts
     next =
         slice_set old.tables seat.vm
-        (change_at (joined (tables_of old.tables seat.vm) seat.own (lists_at before.lists seat.core)) seat.own id f)
+        (change_at (taken_back old.tables before.lists seat) seat.own id f)
 
     low : seat.core < length before.lists
     low =

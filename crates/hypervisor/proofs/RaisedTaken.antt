@@ -25,7 +25,7 @@ use Rattle.bao_wellformed.proofs.Empty.{any_got, left_empty, map_empty, none_pas
 use Rattle.bao_wellformed.proofs.Fits.{found_fits, got_fits}
 use Rattle.bao_wellformed.proofs.Once.{ids_once, spis_once}
 use Rattle.board.specs.Interrupts.{is_raised}
-use Rattle.vm_model.specs.Interrupts.{irq_of_port, is_line_at, stands_at, timer_irq}
+use Rattle.vm_model.specs.Interrupts.{RaisedLines, irq_of_port, is_line_at, stands_at, timer_irq}
 use Rattle.vm_model.specs.Project.{is_port_raised}
 use Rattle.vm_model.proofs.Lists.{found_got}
 use Rattle.hypervisor.specs.Seat.{irq_of_line}
@@ -33,6 +33,10 @@ use Rattle.hypervisor.specs.Shape.{core_mask, port_spot}
 use Rattle.hypervisor.specs.Tidy.{quieted}
 use Rattle.hypervisor.proofs.Raised.{AreLinesOf, got_any, is_timer_raised}
 use Rattle.hypervisor.proofs.RaisedMasks.{found_none, mask_given, none_found, same_tests}
+
+-- which lines of a board are raised, as a core sees them
+abbrev pub board_lines : LinesData → ℕ → RaisedLines
+board_lines lines core = record { timer = is_timer_raised lines core; ports = is_port_raised lines.ports }
 
 -- the port of the platform to which a line belongs
 record IsLineOf (cfg : ConfigData) (ports : List PortPlace) (k : ℕ) (line : PortLine) : Type 0 where
@@ -98,8 +102,8 @@ one_less test id (port ∷ ports) =
 -- what of raised lines stands at a place, and of those without one port's
 ports_less : (cfg : ConfigData) (vm : VmData) (number at id : ℕ) (timer : Bool) (was after : ℕ → Bool)
     → was id ≡ true → list_any (λ port. port.id == id) cfg.platform.ports ≡ true → ((other : ℕ) → after other ≡ (was other && not (other == id)))
-    → is_line_at cfg (Some vm) number timer was at
-    ≡ (is_line_at cfg (Some vm) number timer after at || stands_at number (irq_of_port vm id) at)
+    → is_line_at cfg (Some vm) number (record { timer = timer; ports = was }) at
+    ≡ (is_line_at cfg (Some vm) number (record { timer = timer; ports = after }) at || stands_at number (irq_of_port vm id) at)
 ports_less cfg vm number at id timer was after up there less =
     ap (λ rest. timer && stands_at number (Some timer_irq) at || rest)
     (one_less (λ port. was port && stands_at number (irq_of_port vm port) at) id cfg.platform.ports)
@@ -122,7 +126,8 @@ ports_less cfg vm number at id timer was after up there less =
 
 -- no id stands at a place for a VM, none of whose lines is raised
 nothing_at : (cfg : ConfigData) (vm : VmData) (number : ℕ) (timer : Bool) (raised : ℕ → Bool) → timer ≡ false
-    → ((port : ℕ) → IsTrue (has_port port vm) → raised port ≡ false) → (at : ℕ) → is_line_at cfg (Some vm) number timer raised at ≡ false
+    → ((port : ℕ) → IsTrue (has_port port vm) → raised port ≡ false) → (at : ℕ)
+    → is_line_at cfg (Some vm) number (record { timer = timer; ports = raised }) at ≡ false
 nothing_at cfg vm number timer raised down quiet at =
     ap (λ up. up && stands_at number (Some timer_irq) at || list_any (λ port. raised port.id && stands_at number (irq_of_port vm port.id) at) cfg.platform.ports) down
     ∙ nowhere cfg.platform.ports
@@ -160,7 +165,7 @@ irq_by cfg vm intid timer =
 pub record IsQuiet (cfg : ConfigData) (vm : VmData) (core : ℕ) (lines : LinesData) : Type 0 where
   pub timer : is_timer_raised lines core ≡ false
   pub ports : (port : ℕ) → IsTrue (has_port port vm) → is_port_raised lines.ports port ≡ false
-  pub at : (number at : ℕ) → is_line_at cfg (Some vm) number (is_timer_raised lines core) (is_port_raised lines.ports) at ≡ false
+  pub at : (number at : ℕ) → is_line_at cfg (Some vm) number (board_lines lines core) at ≡ false
 
 -- The core has taken its timer's line. The ports' lines stay.
 pub record IsTimerTaken (core : ℕ) (lines after : LinesData) : Type 0 where
@@ -183,8 +188,8 @@ pub record IsPortTaken (cfg : ConfigData) (vm : VmData) (intid : ℕ) (lines aft
 -- the lines that it leaves to other cores are as before; and there are fewer for it.
 pub record IsTaken (cfg : ConfigData) (vm : VmData) (core intid : ℕ) (lines after : LinesData) : Type 0 where
   pub at : (number at : ℕ)
-      → is_line_at cfg (Some vm) number (is_timer_raised lines core) (is_port_raised lines.ports) at
-      ≡ (is_line_at cfg (Some vm) number (is_timer_raised after core) (is_port_raised after.ports) at
+      → is_line_at cfg (Some vm) number (board_lines lines core) at
+      ≡ (is_line_at cfg (Some vm) number (board_lines after core) at
       || stands_at number (irq_of_line cfg vm intid) at)
   pub timers : (other : ℕ) → (is_timer_raised after other && not (other == core)) ≡ (is_timer_raised lines other && not (other == core))
   pub ports : (port : ℕ)
@@ -510,16 +515,16 @@ module _ (cfg : ConfigData) (well_formed : IsWellFormed cfg) (v core : ℕ) (vm 
                 ours true true given e = ap not (sym (e refl))
 
                 port_at : (taken : IsPortTaken cfg vm intid lines after) (number at : ℕ)
-                    → is_line_at cfg (Some vm) number (is_timer_raised lines core) (is_port_raised lines.ports) at
-                    ≡ (is_line_at cfg (Some vm) number (is_timer_raised after core) (is_port_raised after.ports) at
+                    → is_line_at cfg (Some vm) number (board_lines lines core) at
+                    ≡ (is_line_at cfg (Some vm) number (board_lines after core) at
                     || stands_at number (irq_of_line cfg vm intid) at)
                 port_at taken number at =
                     ports_less cfg vm number at taken.port.id (is_timer_raised lines core) (is_port_raised lines.ports) (is_port_raised after.ports)
                     taken.was (got_any (λ one. one.id == taken.port.id) cfg.platform.ports taken.place taken.port taken.at (eq-eqb taken.port.id taken.port.id refl))
                     taken.ports
-                    ∙ ap (λ ppis. is_line_at cfg (Some vm) number (slice_index_or ppis core false) (is_port_raised after.ports) at
+                    ∙ ap (λ ppis. is_line_at cfg (Some vm) number (record { timer = slice_index_or ppis core false; ports = is_port_raised after.ports }) at
                     || stands_at number (irq_of_port vm taken.port.id) at) (sym taken.timers)
-                    ∙ ap (λ irq. is_line_at cfg (Some vm) number (is_timer_raised after core) (is_port_raised after.ports) at || stands_at number irq at)
+                    ∙ ap (λ irq. is_line_at cfg (Some vm) number (board_lines after core) at || stands_at number irq at)
                     (sym (irq_of_taken other taken))
 
 -- what is down where it is ours, and as before elsewhere, is as before without ours

@@ -15,7 +15,7 @@ use Rattle.hypercalls.specs.Calls.{answer_of}
 use Rattle.hypercalls.specs.declared.outcome.Outcome as calls
 use Rattle.vgic_iface.specs.Interface.{is_unlisted}
 use Rattle.vm_model.specs.Cores.{place_of}
-use Rattle.vm_model.specs.Duty.{Duty, Park, Emulate, Send, abort_duty, answered, call_duty, call_outcome, carried, cores_of, done, duty_of, is_call, is_smc, send_duty}
+use Rattle.vm_model.specs.Duty.{Duty, Park, Emulate, Send, abort_duty, answered, call_duty, call_outcome, caller_of, carried, done, duty_of, is_call, is_smc, send_duty}
 use Rattle.vm_model.specs.Flat.{is_on, runs}
 use Rattle.vm_model.specs.Guests.{Guests}
 use Rattle.vm_model.specs.Frames.{FrameAccess, frame_access}
@@ -39,7 +39,7 @@ module _ (cfg : ConfigData) (old new : HypData) (before between after : Machine)
       → between ≡ with_core before core (answered smc answer (core_at before.cores core)) → smc ≡ is_smc esr → answer ≡ answer_of outcome
       → outcome ≡ call_outcome cfg v core esr guests
       → IsLeft cfg (record { old = old; new = new; before = between; after = after })
-      (carried cfg v (cores_of (slice_get cfg.vms v)) core outcome (guests_of cfg old between))
+      (carried cfg (caller_of cfg v core) outcome (guests_of cfg old between))
       → IsLeft cfg (record { old = old; new = new; before = before; after = after })
       (done cfg core (call_duty cfg (Some v) core esr guests) guests)
   left_call smc answer outcome between_is smc_is answer_is outcome_is left = record {
@@ -52,7 +52,7 @@ module _ (cfg : ConfigData) (old new : HypData) (before between after : Machine)
       Given : Machine → calls.Outcome → Type 0
       Given m o =
           IsLeft cfg (record { old = old; new = new; before = m; after = after })
-          (carried cfg v (cores_of (slice_get cfg.vms v)) core o (guests_of cfg old m))
+          (carried cfg (caller_of cfg v core) o (guests_of cfg old m))
 
       given : Machine
       given = with_core before core (answered (is_smc esr) (answer_of (call_outcome cfg v core esr guests)) (core_at before.cores core))

@@ -2,7 +2,7 @@
 use Rattle.std.proofs.Common.{arith, ◌≡◌, ℕ, suc, ◌+◌, ◌<◌, ◌==◌, Bool, true, false, ◌&&◌, ◌||◌, length, refl, sym, ap, subst, ◌∙◌}
 use Rattle.std.specs.Prelude.{if◌then◌else◌, nat_lt, Some, slice_set}
 use Rattle.std.proofs.lemmas.Bool.Decides.{nat_tests}
-use Rattle.bao_types.specs.ListReg.{free_registers, lists_at}
+use Rattle.bao_types.specs.ListReg.{free_registers}
 use Rattle.bao_config.specs.Data.{ConfigData}
 use Rattle.bao_config.specs.Fits.{ConfigFits}
 use Rattle.bao_wellformed.specs.WellFormed.{IsWellFormed}
@@ -11,7 +11,6 @@ use Rattle.vgic_table.specs.declared.id_state.IdState.{IdState}
 use Rattle.vgic_table.specs.Changes.{made_pending, pended_at}
 use Rattle.vgic_table.specs.Cores.{IsCoreOf}
 use Rattle.vgic_table.specs.Interrupts.{Interrupts, place, tables_of}
-use Rattle.vgic_table.specs.Registers.{joined}
 use Rattle.vgic_table.specs.Shape.{IsShaped}
 use Rattle.vgic_table.proofs.OthersLemmas.{others-cores, others-shaped}
 use Rattle.vgic_table.proofs.PendedLemmas.{made_pending-at, pended-both, pended-none, pended-same, shaped-pended}
@@ -21,7 +20,7 @@ use Rattle.vm_model.specs.Interrupts.{with_table}
 use Rattle.vm_model.specs.Project.{joined_tables, lists_of}
 use Rattle.vm_model.specs.Sent.{is_sent_at, is_target, sent, sent_id}
 use Rattle.hypervisor.specs.Hyp.{HypData}
-use Rattle.hypervisor.specs.Seat.{IsSeat, holder_of}
+use Rattle.hypervisor.specs.Seat.{IsSeat, holder_of, taken_back}
 use Rattle.hypervisor.specs.declared.seat.Seat.{Seat}
 use Rattle.hypervisor.specs.Taken.{IsLeft, guests_of}
 use Rattle.hypervisor.specs.Tidy.{Tidy}
@@ -120,7 +119,7 @@ module _ (cfg : ConfigData) (v sender value : ℕ) where
 
         pub sent_next : (new : HypData) (after : Machine) → after ≡ with_lists between seat.core free_registers → new.powers ≡ mid.powers
             → new.tables ≡ slice_set mid.tables seat.vm
-            (made_pending (joined (tables_of mid.tables seat.vm) seat.own (lists_at between.lists seat.core)) seat.own id)
+            (made_pending (taken_back mid.tables between.lists seat) seat.own id)
             → IsSentBelow old before (n + 1) new after
         sent_next new after state powers tables =
             left_then cfg old mid new before between after (sent_below n guests) (sent_below (n + 1) guests) so_far

@@ -23,6 +23,9 @@ pub record Change : Type 0 where
   pub before : Machine
   pub after : Machine
 
+abbrev pub change_of : HypData → HypData → Machine → Machine → Change
+change_of old new before after = record { old = old; new = new; before = before; after = after }
+
 -- the best interrupt of a core, of all that its VM has, stands in the core's list registers; or there is none
 abbrev pub IsListed : ConfigData → HypData → Machine → ℕ → Type 0
 IsListed cfg hyp m core =

@@ -1,7 +1,10 @@
 -- A virtual core: its VM's place, its number there, and the physical core on which it runs. And the ids that it has.
-use Rattle.std.specs.Prelude.{◌≡◌, ℕ, ◌==◌, nat_lt, if◌then◌else◌, Option, None, Some, slice_get, option_and_then}
+use Rattle.std.specs.Prelude.{◌≡◌, ℕ, ◌==◌, nat_lt, if◌then◌else◌, List, Option, None, Some, slice_get, option_and_then}
 use Rattle.std.specs.List.{find}
+use Rattle.bao_types.specs.ListReg.{ListRegData, lists_at}
 use Rattle.bao_config.specs.Data.{ConfigData, VmData}
+use Rattle.vgic_table.specs.Interrupts.{Interrupts, tables_of}
+use Rattle.vgic_table.specs.Registers.{joined}
 use Rattle.vm_model.specs.Cores.{place_of}
 use Rattle.vm_model.specs.Interrupts.{irq_of_port, timer_irq, virtual_number}
 use Rattle.hypervisor.specs.declared.seat.Seat.{Seat}
@@ -33,3 +36,7 @@ line_of cfg (Some vm) intid = irq_of_line cfg vm intid
 -- the virtual core that has an id of a core: its own below 32, and the VM's first core above
 abbrev pub holder_of : ℕ → ℕ → ℕ
 holder_of own id = if nat_lt id 32 then own else 0
+
+-- a VM's interrupts, once the list registers of a core are back among them
+abbrev pub taken_back : List Interrupts → List (List ListRegData) → Seat → Interrupts
+taken_back tables lists seat = joined (tables_of tables seat.vm) seat.own (lists_at lists seat.core)

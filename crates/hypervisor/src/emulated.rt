@@ -12,6 +12,7 @@ ghost use Rattle.vm_model.specs.Frames.{after_access, stored_value};
 ghost use Rattle.vm_model.specs.Project.{lists_of};
 ghost use Rattle.vm_model.specs.Interrupts.{with_table};
 ghost use Rattle.vm_model.specs.Sent.{sent, sent_value};
+ghost use Rattle.hypervisor.specs.Change.{change_of};
 ghost use Rattle.hypervisor.specs.Access.{access_of, IsAccess};
 ghost use Rattle.hypervisor.specs.Seat.{IsSeat};
 ghost use Rattle.hypervisor.specs.Taken.{guests_of, IsLeft};
@@ -43,7 +44,7 @@ impl Hyp {
         requires seat { IsSeat (config_data config.now) seat }
         requires access { IsAccess (access_of access) }
         ensures { let guests = guests_of (config_data config.now) self.old (B.state board.old) in
-            IsLeft (config_data config.now) (record { old = self.old; new = self.new; before = B.state board.old; after = B.state board.new })
+            IsLeft (config_data config.now) (change_of self.old self.new (B.state board.old) (B.state board.new))
             (done (config_data config.now) seat.core (Emulate seat.vm (access_of access)) guests) }
     {
         self.take_all_back(config, board, seat.vm);
@@ -57,8 +58,7 @@ impl Hyp {
         requires well_formed { IsWellFormed (config_data config.now) }
         requires tidy { Tidy (config_data config.now) self.old (B.state board.old) }
         requires vm { vm < length (config_data config.now).vms }
-        ensures left { IsLeft (config_data config.now)
-            (record { old = self.old; new = self.new; before = B.state board.old; after = B.state board.new })
+        ensures left { IsLeft (config_data config.now) (change_of self.old self.new (B.state board.old) (B.state board.new))
             (guests_of (config_data config.now) self.old (B.state board.old)) }
         ensures free { lists_of (config_data config.now) (B.state board.new).lists vm
             ≡ replicate (length (cores_of (slice_get (config_data config.now).vms vm))) free_registers }
@@ -75,7 +75,7 @@ impl Hyp {
         requires tidy { Tidy (config_data config.now) self.old (B.state board.old) }
         requires seat { IsSeat (config_data config.now) seat }
         ensures { let guests = guests_of (config_data config.now) self.old (B.state board.old) in
-            IsLeft (config_data config.now) (record { old = self.old; new = self.new; before = B.state board.old; after = B.state board.new })
+            IsLeft (config_data config.now) (change_of self.old self.new (B.state board.old) (B.state board.new))
             (done (config_data config.now) seat.core
             (Send seat.vm seat.own (sent_value (core_at (B.state board.old).cores seat.core) esr)) guests) }
     {
@@ -90,7 +90,7 @@ impl Hyp {
         requires tidy { Tidy (config_data config.now) self.old (B.state board.old) }
         requires seat { IsSeat (config_data config.now) seat }
         ensures { let guests = guests_of (config_data config.now) self.old (B.state board.old) in
-            IsLeft (config_data config.now) (record { old = self.old; new = self.new; before = B.state board.old; after = B.state board.new })
+            IsLeft (config_data config.now) (change_of self.old self.new (B.state board.old) (B.state board.new))
             (record guests { tables = with_table (Some seat.vm) (sent seat.own value) guests.tables }) }
     {
         let id = sent_id(value);

@@ -1,6 +1,5 @@
 //! What the hypervisor keeps, and what it does at an event.
 ghost use Rattle.std.specs.Prelude.{◌≡◌, ◌+◌, ◌<◌, ◌≤◌, true, length, slice_get, slice_index, slice_set, if◌then◌else◌, ℕ, Some};
-ghost use Rattle.bao_types.specs.ListReg.{lists_at};
 ghost use Rattle.bao_config.specs.Config.{config_data};
 ghost use Rattle.bao_config.specs.Data.{vm_data};
 ghost use Rattle.bao_wellformed.specs.Checked.{checked_data};
@@ -9,17 +8,16 @@ ghost use Rattle.bao_wellformed.specs.WellFormed.{IsWellFormed};
 ghost use Rattle.board.specs.Machine.{core_at, restarted, with_core};
 ghost use Rattle.hypercalls.specs.Laws.{IsLawful};
 ghost use Rattle.shared_windows.specs.Windows.{irq_of, is_member};
-ghost use Rattle.vgic_table.specs.Registers.{joined};
 ghost use Rattle.vgic_table.specs.Interrupts.{tables_of};
 ghost use Rattle.vm_model.specs.Boot.{boot_power, boot_powers};
-ghost use Rattle.vm_model.specs.Duty.{abort_duty, all_off, answered, arguments, call_duty, call_outcome, carried, cores_of, done, duty_of, pended, powers_of, rung};
+ghost use Rattle.vm_model.specs.Duty.{abort_duty, all_off, answered, arguments, call_duty, call_outcome, caller_of, carried, cores_of, done, duty_of, pended, powers_of, rung};
 ghost use Rattle.vm_model.specs.Interrupts.{with_table};
 ghost use Rattle.vm_model.specs.Flat.{flat_step, is_entered, is_on};
-ghost use Rattle.hypervisor.specs.Change.{IsBestKept, IsLeftToBoard};
+ghost use Rattle.hypervisor.specs.Change.{IsBestKept, IsLeftToBoard, change_of};
 ghost use Rattle.hypervisor.specs.Event.{flat_event, IsPlaced};
 ghost use Rattle.hypervisor.specs.Hyp.{boot_tables, power_of, stands_for};
 ghost use Rattle.hypervisor.specs.Tidy.{Tidy};
-ghost use Rattle.hypervisor.specs.Seat.{IsSeat, IsSeatOf};
+ghost use Rattle.hypervisor.specs.Seat.{IsSeat, IsSeatOf, taken_back};
 ghost use Rattle.hypervisor.specs.Taken.{guests_of, IsAfter, IsEndOfId, IsEntered, IsLeft, IsSettled, IsStepped};
 ghost use Rattle.vm_model.specs.Cores.{place_of};
 ghost use Rattle.vm_model.specs.Frames.{frame_access};
@@ -58,7 +56,10 @@ impl Model for Hyp {
 impl Hyp {
     /// As at boot: the first core of each VM is on, and no other; no interrupt is enabled or pending.
     pub fn new(checked: &Checked) -> Hyp
-        ensures { result ≡ record { powers = boot_powers (checked_data checked.now); tables = boot_tables (checked_data checked.now) } }
+        ensures { result ≡ record {
+          powers = boot_powers (checked_data checked.now);
+          tables = boot_tables (checked_data checked.now);
+        } }
     {
         Hyp {
             powers: boot_powers(checked),
@@ -98,17 +99,19 @@ impl Hyp {
         requires spent { (B.state board.old).spent < (B.state board.old).shape.events }
         ensures tidy { Tidy (checked_data checked.now) self.new (B.state board.new) }
         ensures state { let f = stands_for (checked_data checked.now) self.old (B.state board.old) in
-            stands_for (checked_data checked.now) self.new (B.state board.new) ≡ flat_step (checked_data checked.now) f (flat_event event.now) }
+            stands_for (checked_data checked.now) self.new (B.state board.new)
+            ≡ flat_step (checked_data checked.now) f (flat_event event.now) }
         ensures entered { let f = stands_for (checked_data checked.now) self.old (B.state board.old) in
             (B.state board.new).entered
-            ≡ (B.state board.old).entered + (if is_entered (checked_data checked.now) f (flat_event event.now) then 1 else 0) }
+            ≡ (B.state board.old).entered
+            + (if is_entered (checked_data checked.now) f (flat_event event.now) then 1 else 0) }
         ensures spent { (B.state board.new).spent ≤ (B.state board.old).spent + 1 }
         ensures shape { (B.state board.new).shape ≡ (B.state board.old).shape }
         ensures entries { (B.state board.new).entries ≡ (B.state board.old).entries }
         ensures quiet { IsLeftToBoard (checked_data checked.now)
-            (record { old = self.old; new = self.new; before = B.state board.old; after = B.state board.new }) event.now }
+            (change_of self.old self.new (B.state board.old) (B.state board.new)) event.now }
         ensures best { IsBestKept (checked_data checked.now)
-            (record { old = self.old; new = self.new; before = B.state board.old; after = B.state board.new }) event.now }
+            (change_of self.old self.new (B.state board.old) (B.state board.new)) event.now }
     {
         self.take(checked.config(), board, event);
     }
@@ -120,7 +123,7 @@ impl Hyp {
         requires placed { IsPlaced (config_data config.now) event.now }
         requires spent { (B.state board.old).spent < (B.state board.old).shape.events }
         ensures { IsAfter (config_data config.now)
-            (record { old = self.old; new = self.new; before = B.state board.old; after = B.state board.new }) event.now }
+            (change_of self.old self.new (B.state board.old) (B.state board.new)) event.now }
     {
         match *event {
             Event::Step { core, count } => self.step(config, board, core, count),
@@ -135,7 +138,7 @@ impl Hyp {
         requires core { core < length (config_data config.now).platform.cores }
         requires spent { (B.state board.old).spent < (B.state board.old).shape.events }
         ensures after { IsStepped (config_data config.now)
-            (record { old = self.old; new = self.new; before = B.state board.old; after = B.state board.new }) core count }
+            (change_of self.old self.new (B.state board.old) (B.state board.new)) core count }
     {
         let Some(seat) = seat_of(config, core) else {
             return;
@@ -155,7 +158,7 @@ impl Hyp {
         requires seat { IsSeatOf (config_data config.now) seat.core seat }
         requires spent { (B.state board.old).spent < (B.state board.old).shape.events }
         ensures { IsEntered (config_data config.now)
-            (record { old = self.old; new = self.new; before = B.state board.old; after = B.state board.new }) seat.core count result }
+            (change_of self.old self.new (B.state board.old) (B.state board.new)) seat.core count result }
     {
         self.refill(board, seat);
         match board.step(seat.core, count) {
@@ -174,7 +177,7 @@ impl Hyp {
         requires seat { IsSeatOf (config_data config.now) seat.core seat }
         requires id { IsEndOfId exit }
         ensures { IsSettled (config_data config.now) seat.core exit
-            (record { old = self.old; new = self.new; before = B.state board.old; after = B.state board.new }) }
+            (change_of self.old self.new (B.state board.old) (B.state board.new)) }
     {
         match exit {
             // A step ends by a line only where one is raised, and none is left.
@@ -190,7 +193,7 @@ impl Hyp {
         requires tidy { Tidy (config_data config.now) self.old (B.state board.old) }
         requires seat { IsSeatOf (config_data config.now) seat.core seat }
         ensures { let guests = guests_of (config_data config.now) self.old (B.state board.old) in
-            IsLeft (config_data config.now) (record { old = self.old; new = self.new; before = B.state board.old; after = B.state board.new })
+            IsLeft (config_data config.now) (change_of self.old self.new (B.state board.old) (B.state board.new))
             (done (config_data config.now) seat.core (duty_of (config_data config.now) seat.core (Leave esr far) guests) guests) }
     {
         if is_call(esr) {
@@ -210,7 +213,7 @@ impl Hyp {
         requires tidy { Tidy (config_data config.now) self.old (B.state board.old) }
         requires seat { IsSeatOf (config_data config.now) seat.core seat }
         ensures { let guests = guests_of (config_data config.now) self.old (B.state board.old) in
-            IsLeft (config_data config.now) (record { old = self.old; new = self.new; before = B.state board.old; after = B.state board.new })
+            IsLeft (config_data config.now) (change_of self.old self.new (B.state board.old) (B.state board.new))
             (done (config_data config.now) seat.core (abort_duty (place_of (config_data config.now) seat.core)
             (frame_access (config_data config.now) (owner (config_data config.now) seat.core) esr far) esr far) guests) }
     {
@@ -226,7 +229,7 @@ impl Hyp {
         requires tidy { Tidy (config_data config.now) self.old (B.state board.old) }
         requires seat { IsSeatOf (config_data config.now) seat.core seat }
         ensures { let guests = guests_of (config_data config.now) self.old (B.state board.old) in
-            IsLeft (config_data config.now) (record { old = self.old; new = self.new; before = B.state board.old; after = B.state board.new })
+            IsLeft (config_data config.now) (change_of self.old self.new (B.state board.old) (B.state board.new))
             (done (config_data config.now) seat.core (call_duty (config_data config.now) (Some seat.vm) seat.core esr guests) guests) }
     {
         let outcome = self.outcome(config, board, seat.vm, seat.core, esr);
@@ -239,7 +242,8 @@ impl Hyp {
         requires fitted { (B.state board.now).fitted ≡ true }
         requires vm { vm < length (config_data config.now).vms }
         requires core { core < length (B.state board.now).shape.cores }
-        ensures { result ≡ call_outcome (config_data config.now) vm core esr (guests_of (config_data config.now) self.now (B.state board.now)) }
+        ensures { result ≡ call_outcome (config_data config.now) vm core esr
+            (guests_of (config_data config.now) self.now (B.state board.now)) }
     {
         if immediate(esr) != 0 {
             return Outcome::Answer(NOT_SUPPORTED);
@@ -267,8 +271,8 @@ impl Hyp {
         requires seat { IsSeat (config_data config.now) seat }
         requires lawful { IsLawful (config_data config.now) seat.vm
             (powers_of (cores_of (slice_get (config_data config.now).vms seat.vm)) self.old.powers) outcome }
-        ensures { IsLeft (config_data config.now) (record { old = self.old; new = self.new; before = B.state board.old; after = B.state board.new })
-            (carried (config_data config.now) seat.vm (cores_of (slice_get (config_data config.now).vms seat.vm)) seat.core outcome
+        ensures { IsLeft (config_data config.now) (change_of self.old self.new (B.state board.old) (B.state board.new))
+            (carried (config_data config.now) (caller_of (config_data config.now) seat.vm seat.core) outcome
             (guests_of (config_data config.now) self.old (B.state board.old))) }
     {
         match outcome {
@@ -292,8 +296,8 @@ impl Hyp {
         requires own { seat.own < (tables_of self.old.tables seat.vm).cores }
         ensures state { B.state board.new ≡ restarted (B.state board.old) seat.core start arg }
         ensures powers { self.new.powers ≡ slice_set self.old.powers seat.core Power.On }
-        ensures tables { self.new.tables ≡ slice_set self.old.tables seat.vm
-            (joined (tables_of self.old.tables seat.vm) seat.own (lists_at (B.state board.old).lists seat.core)) }
+        ensures tables { self.new.tables
+            ≡ slice_set self.old.tables seat.vm (taken_back self.old.tables (B.state board.old).lists seat) }
     {
         self.take_back(board, seat);
         board.reset_core(seat.core, start, arg);
@@ -326,7 +330,7 @@ impl Hyp {
         requires tidy { Tidy (config_data config.now) self.old (B.state board.old) }
         requires memory { shmem < length (config_data config.now).shmems }
         ensures { let guests = guests_of (config_data config.now) self.old (B.state board.old) in
-            IsLeft (config_data config.now) (record { old = self.old; new = self.new; before = B.state board.old; after = B.state board.new })
+            IsLeft (config_data config.now) (change_of self.old self.new (B.state board.old) (B.state board.new))
             (record guests {
               tables = rung (config_data config.now) (is_member (config_data config.now) shmem caller) shmem event guests.tables;
             }) }
@@ -345,7 +349,7 @@ impl Hyp {
         requires vm { vm < length (config_data config.now).vms }
         requires memory { shmem < length (config_data config.now).shmems }
         ensures { let guests = guests_of (config_data config.now) self.old (B.state board.old) in
-            IsLeft (config_data config.now) (record { old = self.old; new = self.new; before = B.state board.old; after = B.state board.new })
+            IsLeft (config_data config.now) (change_of self.old self.new (B.state board.old) (B.state board.new))
             (record guests {
               tables = with_table (Some vm) (pended (irq_of (config_data config.now) vm shmem event)) guests.tables;
             }) }
@@ -415,7 +419,8 @@ fn arguments<B: Board>(board: &B, core: u8) -> [u64; 4]
 fn answer<B: Board>(board: &mut B, core: u8, smc: bool, answer: Option<u64>)
     requires fitted { (B.state board.old).fitted ≡ true }
     requires core { core < length (B.state board.old).shape.cores }
-    ensures { B.state board.new ≡ with_core (B.state board.old) core (answered smc answer (core_at (B.state board.old).cores core)) }
+    ensures { B.state board.new
+        ≡ with_core (B.state board.old) core (answered smc answer (core_at (B.state board.old).cores core)) }
 {
     if let Some(value) = answer {
         board.set_gpr(core, 0, value);

@@ -1,5 +1,5 @@
 //! Interrupts of the VMs, between their tables and the list registers of their cores.
-ghost use Rattle.std.specs.Prelude.{◌≡◌, ◌<◌, true, length, slice_set, Some, slice_get, unwrap_or};
+ghost use Rattle.std.specs.Prelude.{◌≡◌, ◌<◌, true, length, slice_set, Some, unwrap_or};
 ghost use Rattle.bao_types.specs.Controller.{id_end};
 ghost use Rattle.bao_types.specs.ListReg.{free_registers, lists_at};
 ghost use Rattle.bao_config.specs.Config.{config_data};
@@ -8,9 +8,10 @@ ghost use Rattle.board.specs.Machine.{with_lists};
 ghost use Rattle.vgic_table.specs.Changes.{made_inactive, made_pending};
 ghost use Rattle.vgic_table.specs.Registers.{joined, refilled};
 ghost use Rattle.vgic_table.specs.Interrupts.{tables_of};
+ghost use Rattle.hypervisor.specs.Change.{change_of};
 ghost use Rattle.hypervisor.specs.Taken.{ended_guests, guests_of, line_guests, IsForwarded, IsLeft};
 ghost use Rattle.hypervisor.specs.Again.{filled_again};
-ghost use Rattle.hypervisor.specs.Seat.{IsSeat, IsSeatOf};
+ghost use Rattle.hypervisor.specs.Seat.{IsSeat, IsSeatOf, taken_back};
 ghost use Rattle.hypervisor.specs.Tidy.{Tidy};
 
 use crate::hyp::Hyp;
@@ -29,8 +30,8 @@ impl Hyp {
         requires core { seat.core < length (B.state board.old).shape.cores }
         requires vm { seat.vm < length self.old.tables }
         requires own { seat.own < (tables_of self.old.tables seat.vm).cores }
-        ensures tables { self.new.tables ≡ slice_set self.old.tables seat.vm
-            (joined (tables_of self.old.tables seat.vm) seat.own (lists_at (B.state board.old).lists seat.core)) }
+        ensures tables { self.new.tables
+            ≡ slice_set self.old.tables seat.vm (taken_back self.old.tables (B.state board.old).lists seat) }
         ensures powers { self.new.powers ≡ self.old.powers }
         ensures state { B.state board.new ≡ with_lists (B.state board.old) seat.core free_registers }
     {
@@ -46,7 +47,7 @@ impl Hyp {
         requires own { seat.own < (tables_of self.old.tables seat.vm).cores }
         requires id { id < id_end }
         ensures tables { self.new.tables ≡ slice_set self.old.tables seat.vm
-            (made_pending (joined (tables_of self.old.tables seat.vm) seat.own (lists_at (B.state board.old).lists seat.core)) seat.own id) }
+            (made_pending (taken_back self.old.tables (B.state board.old).lists seat) seat.own id) }
         ensures powers { self.new.powers ≡ self.old.powers }
         ensures state { B.state board.new ≡ with_lists (B.state board.old) seat.core free_registers }
     {
@@ -62,7 +63,7 @@ impl Hyp {
         requires own { seat.own < (tables_of self.old.tables seat.vm).cores }
         requires id { id < id_end }
         ensures tables { self.new.tables ≡ slice_set self.old.tables seat.vm
-            (made_inactive (joined (tables_of self.old.tables seat.vm) seat.own (lists_at (B.state board.old).lists seat.core)) seat.own id) }
+            (made_inactive (taken_back self.old.tables (B.state board.old).lists seat) seat.own id) }
         ensures powers { self.new.powers ≡ self.old.powers }
         ensures state { B.state board.new ≡ with_lists (B.state board.old) seat.core free_registers }
     {
@@ -93,7 +94,7 @@ impl Hyp {
         requires tidy { Tidy (config_data config.now) self.old (B.state board.old) }
         requires seat { IsSeatOf (config_data config.now) seat.core seat }
         ensures { IsForwarded (config_data config.now) seat.core
-            (record { old = self.old; new = self.new; before = B.state board.old; after = B.state board.new }) }
+            (change_of self.old self.new (B.state board.old) (B.state board.new)) }
     {
         while let Some(intid) = board.ack(seat.core) {
             self.forward_line(config, board, seat, intid);
@@ -106,7 +107,7 @@ impl Hyp {
         requires tidy { Tidy (config_data config.now) self.old (B.state board.old) }
         requires seat { IsSeat (config_data config.now) seat }
         ensures { let guests = guests_of (config_data config.now) self.old (B.state board.old) in
-            IsLeft (config_data config.now) (record { old = self.old; new = self.new; before = B.state board.old; after = B.state board.new })
+            IsLeft (config_data config.now) (change_of self.old self.new (B.state board.old) (B.state board.new))
             (line_guests (config_data config.now) seat.vm seat.own intid guests) }
     {
         if let Some(irq) = irq_of_line(config, vm_at(config, seat.vm), intid) {
@@ -122,7 +123,7 @@ impl Hyp {
         requires seat { IsSeat (config_data config.now) seat }
         requires id { id < id_end }
         ensures { let guests = guests_of (config_data config.now) self.old (B.state board.old) in
-            IsLeft (config_data config.now) (record { old = self.old; new = self.new; before = B.state board.old; after = B.state board.new })
+            IsLeft (config_data config.now) (change_of self.old self.new (B.state board.old) (B.state board.new))
             (ended_guests seat.vm seat.own id guests) }
     {
         let holder = holder(config, seat, id);

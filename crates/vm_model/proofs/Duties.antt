@@ -16,7 +16,7 @@ use Rattle.bao_wellformed.specs.Map.{has_core, owner}
 use Rattle.board.specs.Attempt.{Outcome, Ran, Acknowledged, Ended, Leave}
 use Rattle.board.specs.Machine.{begun, core_at}
 use Rattle.shared_windows.specs.Windows.{irq_in, irq_of, is_member, is_on, lists}
-use Rattle.hypercalls.specs.Calls.{answer_of, call_in, call_of, doorbell, outcome_of, service_of, not_supported}
+use Rattle.hypercalls.specs.Calls.{answer_of, call_in, call_of, doorbell, outcome_of, service_of, not_supported, x_in}
 use Rattle.hypercalls.specs.Laws.{IsLawful}
 use Rattle.hypercalls.specs.declared.outcome.Outcome as calls
 use Rattle.hypercalls.specs.declared.outcome.Outcome.TheVariants as call
@@ -80,20 +80,18 @@ module _ (cfg : ConfigData) (vm : VmData) where
   doorbell_alike None event = refl
   doorbell_alike (Some window) event = refl
 
-  service_alike : (asked : Option Service) (powers : List Power) (x1 x2 x3 : ℕ)
-      → outcome_of cfg vm powers asked x1 x2 x3 ≡ outcome_of (single cfg vm) vm powers asked x1 x2 x3
-  service_alike None powers x1 x2 x3 = refl
-  service_alike (Some service.Ring) powers x1 x2 x3 = doorbell_alike (slice_get vm.ipcs x1) x2
-  service_alike (Some service.Version) powers x1 x2 x3 = refl
-  service_alike (Some service.CpuOff) powers x1 x2 x3 = refl
-  service_alike (Some service.CpuOn) powers x1 x2 x3 = refl
-  service_alike (Some service.AffinityInfo) powers x1 x2 x3 = refl
-  service_alike (Some service.SystemOff) powers x1 x2 x3 = refl
+  service_alike : (asked : Option Service) (powers : List Power) (regs : List ℕ)
+      → outcome_of cfg vm powers asked regs ≡ outcome_of (single cfg vm) vm powers asked regs
+  service_alike None powers regs = refl
+  service_alike (Some service.Ring) powers regs = doorbell_alike (slice_get vm.ipcs (x_in regs 1)) (x_in regs 2)
+  service_alike (Some service.Version) powers regs = refl
+  service_alike (Some service.CpuOff) powers regs = refl
+  service_alike (Some service.CpuOn) powers regs = refl
+  service_alike (Some service.AffinityInfo) powers regs = refl
+  service_alike (Some service.SystemOff) powers regs = refl
 
   call_alike : (powers : List Power) (regs : List ℕ) → call_in cfg (Some vm) powers regs ≡ call_in (single cfg vm) (Some vm) powers regs
-  call_alike powers regs =
-      service_alike (service_of (slice_index_or regs 0 0 % 2 ^ 32)) powers (slice_index_or regs 1 0) (slice_index_or regs 2 0)
-      (slice_index_or regs 3 0)
+  call_alike powers regs = service_alike (service_of (x_in regs 0 % 2 ^ 32)) powers regs
 
 -- which VM a core has
 pub at_place : (v : ℕ) (o : Option ℕ) → IsTrue (is_place v o) → o ≡ Some v
@@ -175,7 +173,8 @@ module _ (cfg : ConfigData) (v : ℕ) (vm : VmData) (place : slice_get cfg.vms v
 
   carried_alike : (core : ℕ) → IsTrue (has_core core vm) → (powers : List Power) (outcome : calls.Outcome) → IsLawful cfg v powers outcome
       → (g h : Guests) → SameGuests v vm g h
-      → SameGuests v vm (carried cfg v vm.cores core outcome g) (carried (single cfg vm) 0 vm.cores core outcome h)
+      → SameGuests v vm (carried cfg (record { vm = v; cores = vm.cores; core = core }) outcome g)
+      (carried (single cfg vm) (record { vm = 0; cores = vm.cores; core = core }) outcome h)
   carried_alike core own powers (call.Answer value) lawful g h same = same
   carried_alike core own powers (call.Ring shmem event) lawful g h same = record {
     cores = same.cores;
@@ -234,10 +233,10 @@ module _ (cfg : ConfigData) (v : ℕ) (vm : VmData) (place : slice_get cfg.vms v
       called : SameGuests v vm (done cfg core (Call v (is_smc esr) (call_outcome cfg v core esr g)) g)
           (done (single cfg vm) core (Call 0 (is_smc esr) (call_outcome (single cfg vm) 0 core esr h)) h)
       called =
-          subst (λ o. SameGuests v vm (carried cfg v (cores_of o) core (call_outcome cfg v core esr g)
+          subst (λ o. SameGuests v vm (carried cfg (record { vm = v; cores = cores_of o; core = core }) (call_outcome cfg v core esr g)
           (with_answer core (is_smc esr) (answer_of (call_outcome cfg v core esr g)) g))
           (done (single cfg vm) core (Call 0 (is_smc esr) (call_outcome (single cfg vm) 0 core esr h)) h)) (sym place)
-          (subst (λ out. SameGuests v vm (carried cfg v vm.cores core (call_outcome cfg v core esr g)
+          (subst (λ out. SameGuests v vm (carried cfg (record { vm = v; cores = vm.cores; core = core }) (call_outcome cfg v core esr g)
           (with_answer core (is_smc esr) (answer_of (call_outcome cfg v core esr g)) g))
           (done (single cfg vm) core (Call 0 (is_smc esr) out) h)) (outcome_alike core own esr g h same)
           (carried_alike core own _ (call_outcome cfg v core esr g) (call_lawful cfg v core esr g (immediate esr == 0)) _ _
@@ -377,7 +376,7 @@ module _ (cfg : ConfigData) (v : ℕ) (vm : VmData) (place : slice_get cfg.vms v
   module _ (w : ℕ) (other : VmData) (differ : w ≢ v) (there : slice_get cfg.vms w ≡ Some other) where
     carried_foreign : (smc : Bool) (powers : List Power) (outcome : calls.Outcome) → IsLawful cfg w powers outcome
         → (g h : Guests) → SameGuests v vm g h
-        → SameGuests v vm (carried cfg w other.cores core outcome g) (with_heard cfg v vm (ring_of (Call w smc outcome)) h)
+        → SameGuests v vm (carried cfg (record { vm = w; cores = other.cores; core = core }) outcome g) (with_heard cfg v vm (ring_of (Call w smc outcome)) h)
     carried_foreign smc powers (call.Answer value) lawful g h same = same
     carried_foreign smc powers (call.Ring shmem event) lawful g h same = record {
       cores = same.cores;
@@ -402,7 +401,7 @@ module _ (cfg : ConfigData) (v : ℕ) (vm : VmData) (place : slice_get cfg.vms v
         → SameGuests v vm (done cfg core (Call w (is_smc esr) (call_outcome cfg w core esr g)) g)
         (with_heard cfg v vm (ring_of (Call w (is_smc esr) (call_outcome cfg w core esr g))) h)
     called_foreign esr g h same =
-        subst (λ o. SameGuests v vm (carried cfg w (cores_of o) core (call_outcome cfg w core esr g)
+        subst (λ o. SameGuests v vm (carried cfg (record { vm = w; cores = cores_of o; core = core }) (call_outcome cfg w core esr g)
         (with_answer core (is_smc esr) (answer_of (call_outcome cfg w core esr g)) g))
         (with_heard cfg v vm (ring_of (Call w (is_smc esr) (call_outcome cfg w core esr g))) h)) (sym there)
         (carried_foreign (is_smc esr) _ (call_outcome cfg w core esr g) (call_lawful cfg w core esr g (immediate esr == 0)) _ h

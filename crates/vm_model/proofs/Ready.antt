@@ -21,7 +21,7 @@ use Rattle.vgic_table.specs.Changes.{pended_at}
 use Rattle.vm_model.specs.Cores.{affinity_of, is_place, place_of}
 use Rattle.vm_model.specs.Guests.{Tables}
 use Rattle.vm_model.specs.Interrupts.{irq_of_port, is_line_at, stands_at, timer_irq, virtual_number, with_table}
-use Rattle.vm_model.specs.Flat.{Flat, flat_forwarded, flat_ready, flat_ticked, has_dev}
+use Rattle.vm_model.specs.Flat.{Flat, flat_forwarded, flat_ready, flat_ticked, has_dev, raised_for}
 use Rattle.vm_model.specs.Agree.{Agree}
 use Rattle.vm_model.specs.Apart.{IsApart}
 use Rattle.vm_model.proofs.Duties.{single, at_place}
@@ -94,20 +94,20 @@ module _ (cfg : ConfigData) (v : ℕ) (vm : VmData) (place : slice_get cfg.vms v
       ap (λ raised. raised || other == core && rises (core_at f.cores core).timer count) (agree.timer_lines other others)
       ∙ ap (λ (c : CoreData). g.timer_lines other || other == core && rises c.timer count) before
 
-  change_alike : pended_at (is_line_at cfg (owner cfg core) (virtual_number cfg core) ((flat_ticked f core count).timer_lines core) f.port_lines)
+  change_alike : pended_at (is_line_at cfg (owner cfg core) (virtual_number cfg core) (raised_for (flat_ticked f core count) core))
       ≡ pended_at (is_line_at (single cfg vm) (owner (single cfg vm) core) (virtual_number (single cfg vm) core)
-      ((flat_ticked g core count).timer_lines core) g.port_lines)
+      (raised_for (flat_ticked g core count) core))
   change_alike =
-      ap (λ o. pended_at (is_line_at cfg o (affinity_of o core) ((flat_ticked f core count).timer_lines core) f.port_lines)) owner_is
+      ap (λ o. pended_at (is_line_at cfg o (affinity_of o core) (raised_for (flat_ticked f core count) core))) owner_is
       ∙ ap pended_at (λ i at. at_alike at i)
-      ∙ sym (ap (λ o. pended_at (is_line_at (single cfg vm) o (affinity_of o core) ((flat_ticked g core count).timer_lines core) g.port_lines))
+      ∙ sym (ap (λ o. pended_at (is_line_at (single cfg vm) o (affinity_of o core) (raised_for (flat_ticked g core count) core)))
       owner_alone)
     where
       number : ℕ
       number = affinity_of (Some vm) core
 
-      at_alike : (at : ℕ) → is_line_at cfg (Some vm) number ((flat_ticked f core count).timer_lines core) f.port_lines at
-          ≡ is_line_at (single cfg vm) (Some vm) number ((flat_ticked g core count).timer_lines core) g.port_lines at
+      at_alike : (at : ℕ) → is_line_at cfg (Some vm) number (raised_for (flat_ticked f core count) core) at
+          ≡ is_line_at (single cfg vm) (Some vm) number (raised_for (flat_ticked g core count) core) at
       at_alike at =
           ap (λ raised. raised && stands_at number (Some timer_irq) at
           || list_any (λ port. f.port_lines port.id && stands_at number (irq_of_port vm port.id) at) cfg.platform.ports) (timer_alike core has)
@@ -169,8 +169,8 @@ module _ (cfg : ConfigData) (images : List (List ℕ)) (v : ℕ) (vm : VmData) (
     powers = agree.powers;
     core_count = length-set f.cores core (timed (core_at f.cores core) count) ∙ agree.core_count;
     table =
-        ap (λ b. if b then pended_at (is_line_at cfg (owner cfg core) (virtual_number cfg core) ((flat_ticked f core count).timer_lines core)
-        f.port_lines) (f.tables v) else f.tables v) stranger
+        ap (λ b. if b then pended_at (is_line_at cfg (owner cfg core) (virtual_number cfg core) (raised_for (flat_ticked f core count) core))
+        (f.tables v) else f.tables v) stranger
         ∙ agree.table;
     ports = agree.ports;
     timer_lines = λ c has.

@@ -124,14 +124,23 @@ abbrev pub all_off : List ℕ → List Power → List Power
 all_off [] powers = powers
 all_off (core ∷ cores) powers = all_off cores (slice_set powers core Off)
 
--- what comes of a call of a core of the VM at a place is carried out; `cores` are that VM's
-abbrev pub carried : ConfigData → ℕ → List ℕ → ℕ → calls.Outcome → Guests → Guests
-carried cfg v cores core (call.Answer value) guests = guests
-carried cfg v cores core (call.Ring shmem event) guests =
-    record guests { tables = rung cfg (is_member cfg shmem v) shmem event guests.tables }
-carried cfg v cores core call.Off guests = record guests { powers = slice_set guests.powers core Off }
-carried cfg v cores core (call.On own entry arg) guests = turned_on cfg (slice_index cores own) entry arg guests
-carried cfg v cores core call.SystemOff guests = record guests { powers = all_off cores guests.powers }
+-- who calls: a core of the VM at a place, which has these cores
+pub record Caller : Type 0 where
+  pub vm : ℕ
+  pub cores : List ℕ
+  pub core : ℕ
+
+abbrev pub caller_of : ConfigData → ℕ → ℕ → Caller
+caller_of cfg v core = record { vm = v; cores = cores_of (slice_get cfg.vms v); core = core }
+
+-- what comes of a call is carried out
+abbrev pub carried : ConfigData → Caller → calls.Outcome → Guests → Guests
+carried cfg caller (call.Answer value) guests = guests
+carried cfg caller (call.Ring shmem event) guests =
+    record guests { tables = rung cfg (is_member cfg shmem caller.vm) shmem event guests.tables }
+carried cfg caller call.Off guests = record guests { powers = slice_set guests.powers caller.core Off }
+carried cfg caller (call.On own entry arg) guests = turned_on cfg (slice_index caller.cores own) entry arg guests
+carried cfg caller call.SystemOff guests = record guests { powers = all_off caller.cores guests.powers }
 
 abbrev pub with_answer : ℕ → Bool → Option ℕ → Guests → Guests
 with_answer core smc answer guests =
@@ -147,7 +156,7 @@ abbrev pub done : ConfigData → ℕ → Duty → Guests → Guests
 done cfg core Nothing guests = guests
 done cfg core (Park esr far) guests = record guests { powers = slice_set guests.powers core (Parked esr far) }
 done cfg core (Call v smc outcome) guests =
-    carried cfg v (cores_of (slice_get cfg.vms v)) core outcome (with_answer core smc (answer_of outcome) guests)
+    carried cfg (caller_of cfg v core) outcome (with_answer core smc (answer_of outcome) guests)
 done cfg core (Emulate v access) guests =
     worked v core (after_access access (answer (guests.tables v) access.place access.width None) (core_at guests.cores core))
     (accessed access (core_at guests.cores core)) guests

@@ -19,7 +19,7 @@ use Rattle.hypercalls.specs.declared.power.Power.TheVariants.{On, Off, Parked}
 use Rattle.shared_windows.specs.Windows.{lists}
 use Rattle.vm_model.specs.Cores.{place_of}
 use Rattle.vm_model.specs.Guests.{Guests, Tables}
-use Rattle.vm_model.specs.Interrupts.{best_of, is_line_at, table_after, virtual_number, with_table}
+use Rattle.vm_model.specs.Interrupts.{RaisedLines, best_of, is_line_at, table_after, virtual_number, with_table}
 use Rattle.vm_model.specs.Duty.{Duty, done, duty_of, rung}
 
 -- memory by address, each core's registers and power by its number, each VM's interrupts by its place, what each port keeps,
@@ -114,6 +114,10 @@ abbrev pub has_dev : ℕ → Option VmData → Bool
 has_dev port None = false
 has_dev port (Some vm) = has_port port vm
 
+-- which lines are raised, as a core sees them
+abbrev pub raised_for : Flat → ℕ → RaisedLines
+raised_for f core = record { timer = f.timer_lines core; ports = f.port_lines }
+
 -- once the lines are forwarded that are raised for a core: its timer's and those of its VM's ports. Each makes its id pending in
 -- the VM, and is raised no longer.
 abbrev pub flat_forwarded : ConfigData → Flat → ℕ → Flat
@@ -121,7 +125,7 @@ flat_forwarded cfg f core =
     record f {
       tables =
           with_table (place_of cfg core)
-          (pended_at (is_line_at cfg (owner cfg core) (virtual_number cfg core) (f.timer_lines core) f.port_lines)) f.tables;
+          (pended_at (is_line_at cfg (owner cfg core) (virtual_number cfg core) (raised_for f core))) f.tables;
       timer_lines = λ other. f.timer_lines other && not (other == core);
       port_lines = λ port. f.port_lines port && not (has_dev port (owner cfg core));
     }

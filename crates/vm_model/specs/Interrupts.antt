@@ -49,10 +49,15 @@ abbrev pub stands_at : ℕ → Option ℕ → ℕ → Bool
 stands_at core None at = false
 stands_at core (Some id) at = place core id == at
 
+-- which of the lines that may reach a core are raised: its timer's, and each port's by its number
+pub record RaisedLines : Type 0 where
+  pub timer : Bool
+  pub ports : ℕ → Bool
+
 -- The id at this place of a VM's table is that of a raised line: of the timer of its core with a number, or of a port that the
--- VM is given. Each line by itself says whether it is raised.
-abbrev pub is_line_at : ConfigData → Option VmData → ℕ → Bool → (ℕ → Bool) → ℕ → Bool
-is_line_at cfg None core timer ports at = false
-is_line_at cfg (Some vm) core timer ports at =
-    timer && stands_at core (Some timer_irq) at
-    || list_any (λ port. ports port.id && stands_at core (irq_of_port vm port.id) at) cfg.platform.ports
+-- VM is given.
+abbrev pub is_line_at : ConfigData → Option VmData → ℕ → RaisedLines → ℕ → Bool
+is_line_at cfg None core raised at = false
+is_line_at cfg (Some vm) core raised at =
+    raised.timer && stands_at core (Some timer_irq) at
+    || list_any (λ port. raised.ports port.id && stands_at core (irq_of_port vm port.id) at) cfg.platform.ports

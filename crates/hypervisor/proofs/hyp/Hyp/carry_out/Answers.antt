@@ -4,7 +4,7 @@ use Rattle.std.proofs.lemmas.Option.{slice_get_within}
 use Rattle.bao_config.specs.Config.{config_data}
 use Rattle.hypercalls.specs.Laws.{IsLawful}
 use Rattle.hypercalls.specs.declared.power.Power.TheVariants as power
-use Rattle.vm_model.specs.Duty.{all_off, carried, cores_of, powers_of, turned_on}
+use Rattle.vm_model.specs.Duty.{all_off, caller_of, carried, cores_of, powers_of, turned_on}
 use Rattle.hypervisor.specs.Taken.{IsLeft, guests_of}
 use Rattle.hypervisor.proofs.Calls.{start_lawful}
 use Rattle.hypervisor.proofs.Left.{left_on, left_powers, left_same, seat_core}
@@ -55,7 +55,7 @@ returns-in-Answer g c =
     let v = c.args.seat.vm in
     subst
     (λ o. IsLeft cfg (record { old = old; new = old; before = m; after = m })
-    (carried cfg v (cores_of (slice_get cfg.vms v)) c.args.seat.core o (guests_of cfg old m))) (sym c.in-Answer.is)
+    (carried cfg (caller_of cfg v c.args.seat.core) o (guests_of cfg old m))) (sym c.in-Answer.is)
     (left_same cfg old m c.requires.tidy)
 
 pub returns-in-Ring : goal.returns-in-Ring
@@ -64,7 +64,7 @@ returns-in-Ring g c =
     let v = c.args.seat.vm in
     subst
     (λ o. IsLeft cfg (record { old = old; new = c.ring.new.self; before = m; after = g.B.Board.state c.ring.new.board })
-    (carried cfg v (cores_of (slice_get cfg.vms v)) c.args.seat.core o (guests_of cfg old m))) (sym c.in-Ring.is)
+    (carried cfg (caller_of cfg v c.args.seat.core) o (guests_of cfg old m))) (sym c.in-Ring.is)
     c.ring.ensures
 
 pub returns-in-Off : goal.returns-in-Off
@@ -73,7 +73,7 @@ returns-in-Off g c =
     let v = c.args.seat.vm in
     subst
     (λ o. IsLeft cfg (record { old = old; new = c.set_power.new.self; before = m; after = m })
-    (carried cfg v (cores_of (slice_get cfg.vms v)) c.args.seat.core o (guests_of cfg old m))) (sym c.in-Off.is)
+    (carried cfg (caller_of cfg v c.args.seat.core) o (guests_of cfg old m))) (sym c.in-Off.is)
     (left_powers cfg old c.set_power.new.self m (slice_set old.powers c.args.seat.core power.Off) c.requires.tidy c.set_power.ensures.powers
     c.set_power.ensures.tables)
 
@@ -83,7 +83,7 @@ returns-in-On g c =
     let v = c.args.seat.vm in
     subst
     (λ o. IsLeft cfg (record { old = old; new = c.turn_on.new.self; before = m; after = g.B.Board.state c.turn_on.new.board })
-    (carried cfg v (cores_of (slice_get cfg.vms v)) c.args.seat.core o (guests_of cfg old m))) (sym c.in-On.is)
+    (carried cfg (caller_of cfg v c.args.seat.core) o (guests_of cfg old m))) (sym c.in-On.is)
     (subst
     (λ n. IsLeft cfg (record { old = old; new = c.turn_on.new.self; before = m; after = g.B.Board.state c.turn_on.new.board })
     (turned_on cfg n c.in-On.start c.in-On.arg (guests_of cfg old m)))
@@ -98,6 +98,6 @@ returns-in-SystemOff g c =
     let v = c.args.seat.vm in
     subst
     (λ o. IsLeft cfg (record { old = old; new = c.turn_all_off.new.self; before = m; after = m })
-    (carried cfg v (cores_of (slice_get cfg.vms v)) c.args.seat.core o (guests_of cfg old m))) (sym c.in-SystemOff.is)
+    (carried cfg (caller_of cfg v c.args.seat.core) o (guests_of cfg old m))) (sym c.in-SystemOff.is)
     (left_powers cfg old c.turn_all_off.new.self m (all_off (cores_of (slice_get cfg.vms v)) old.powers) c.requires.tidy
     (c.turn_all_off.ensures.powers ∙ ap (λ o. all_off (cores_of o) old.powers) (sym c.vm_at.ensures)) c.turn_all_off.ensures.tables)
