@@ -41,10 +41,10 @@ pair_fails {A} near xs none i j one other first second less =
 inside_apart : (inner outer other : ByteRange) → lies_in inner outer ≡ true → overlaps outer other ≡ false → overlaps inner other ≡ false
 inside_apart inner outer other lies apart = grind (arith, nat_tests)
 
-behind : {A : Type 0} (front rest : List A) (k : ℕ) (x : A) → slice_get rest k ≡ Some x → slice_get (front ++ rest) (length front + k) ≡ Some x
-behind [] rest k x got = let e : 0 + k ≡ k = omega arith in ap (slice_get rest) e ∙ got
-behind (one ∷ front) rest k x got =
-    let e : suc (length front) + k ≡ suc (length front + k) = omega arith in ap (slice_get (one ∷ front ++ rest)) e ∙ behind front rest k x got
+after_front : {A : Type 0} (front rest : List A) (k : ℕ) (x : A) → slice_get rest k ≡ Some x → slice_get (front ++ rest) (length front + k) ≡ Some x
+after_front [] rest k x got = let e : 0 + k ≡ k = omega arith in ap (slice_get rest) e ∙ got
+after_front (one ∷ front) rest k x got =
+    let e : suc (length front) + k ≡ suc (length front + k) = omega arith in ap (slice_get (one ∷ front ++ rest)) e ∙ after_front front rest k x got
 
 -- two ranges that have one byte overlap
 meet : (one other : ByteRange) (at : ℕ) → is_within one at ≡ true → is_within other at ≡ true → overlaps one other ≡ false → ⊥
@@ -62,14 +62,14 @@ module _ (cfg : ConfigData) (keeps : IsKept cfg) where
       (frame (distributor cfg) ∷ frame (redistributors cfg) ∷ map (λ port. plain (port_range port.base)) cfg.platform.ports) k (plain bank)
       (map_got plain cfg.platform.banks k bank got)
 
-  -- the ports stand behind the banks and the two frames
+  -- the ports stand after the banks and the two frames
   pub port_at : (k : ℕ) (port : PortPlace) → slice_get cfg.platform.ports k ≡ Some port
       → slice_get (pieces cfg) (length cfg.platform.banks + suc (suc k)) ≡ Some (plain (port_range port.base))
   port_at k port got =
       let count = length-map cfg.platform.banks plain in
       let place : length cfg.platform.banks + suc (suc k) ≡ length (map plain cfg.platform.banks) + suc (suc k) = omega (arith, count) in
       ap (slice_get (pieces cfg)) place
-      ∙ behind (map plain cfg.platform.banks)
+      ∙ after_front (map plain cfg.platform.banks)
       (frame (distributor cfg) ∷ frame (redistributors cfg) ∷ map (λ port. plain (port_range port.base)) cfg.platform.ports) (suc (suc k))
       (plain (port_range port.base)) (map_got (λ port. plain (port_range port.base)) cfg.platform.ports k port got)
 
@@ -165,15 +165,15 @@ module _ (cfg : ConfigData) (keeps : IsKept cfg) where
     of_devices [] all = All-nil Owns
     of_devices (dev ∷ devs) all =
         one_more (dev_entry cfg dev) (of_device dev (all dev.port (here (dev.port == dev.port) refl)))
-        (of_devices devs (λ port later. all port (behind_it (dev.port == port) _ later)))
+        (of_devices devs (λ port later. all port (later_too (dev.port == port) _ later)))
       where
         here : (b : Bool) → (dev.port == dev.port) ≡ b → IsTrue (b || list_any (λ d. d.port == dev.port) devs)
         here true e = refl
         here false e = absurd (grind (arith, nat_tests))
 
-        behind_it : (a b : Bool) → IsTrue b → IsTrue (a || b)
-        behind_it true b h = refl
-        behind_it false b h = h
+        later_too : (a b : Bool) → IsTrue b → IsTrue (a || b)
+        later_too true b h = refl
+        later_too false b h = h
 
         one_more : (o : Option MapEntry) → IfSome o Owns → All Owns (filter_map (dev_entry cfg) devs)
             → All Owns (cons_option o (filter_map (dev_entry cfg) devs))

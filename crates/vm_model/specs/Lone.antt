@@ -1,5 +1,5 @@
 -- A VM alone: its own configuration, what it sees of a run, and its own run over that.
-use Rattle.std.specs.Prelude.{ℕ, ◌==◌, Bool, true, false, if◌then◌else◌, List, [], ◌∷◌, ◌++◌, filter, Option, None, Some, slice_get, option_to_list}
+use Rattle.std.specs.Prelude.{ℕ, Bool, true, false, if◌then◌else◌, List, [], ◌∷◌, ◌++◌, filter, Option, None, Some, slice_get, option_to_list}
 use Rattle.bao_config.specs.Data.{ConfigData, VmData}
 use Rattle.bao_wellformed.specs.declared.map.Kind.{Kind}
 use Rattle.bao_wellformed.specs.declared.map.Kind.TheVariants.{Ram, Port, Window, Hole}
