@@ -1,25 +1,20 @@
 -- The shape that a well-formed configuration asks for is one that a board can be fitted with.
-use Rattle.std.proofs.Common.{◌≡◌, ℕ, suc, ◌+◌, ◌%◌, ◌<◌, ◌≤◌, Bool, true, false, not, List, [], ◌∷◌, ◌++◌, map, filter, length, get_or, slice_get, All, Some, nat_lt, cond, sum, sum_by, refl, ap, ◌∙◌, arith}
-use Rattle.std.specs.Prelude.{IsTrue, IsFalse}
+use Rattle.std.proofs.Common.{◌≡◌, ℕ, suc, ◌+◌, ◌%◌, ◌<◌, ◌≤◌, Bool, true, false, List, [], ◌∷◌, ◌++◌, map, filter, get_or, slice_get, All, Some, nat_lt, cond, sum, sum_by, refl, arith}
+use Rattle.std.specs.Prelude.{IsFalse}
 use Rattle.std.specs.List.{AllPairs, enumerate_from, flat_map}
-use Rattle.std.proofs.lemmas.Bool.{not-false, ltb-false}
-use Rattle.std.proofs.lemmas.Bool.Decides.{nat_tests}
-use Rattle.std.proofs.lemmas.List.{length-map}
+use Rattle.std.proofs.lemmas.Bool.{ltb-false}
 use Rattle.std.proofs.lemmas.List.Sums.{sum-map, sum_by-cons}
 use Rattle.std.proofs.lemmas.List.Elements.{All-append, All-cons, All-head, All-map, All-nil, All-tail, All-weaker}
-use Rattle.std.proofs.lemmas.Option.{slice_get-get_or, slice_get_within}
+use Rattle.std.proofs.lemmas.Option.{slice_get-get_or}
 use Rattle.bao_types.specs.declared.range.ByteRange.{ByteRange}
-use Rattle.bao_types.specs.ByteRange.{address_space_end, end, lies_in, overlaps}
+use Rattle.bao_types.specs.ByteRange.{address_space_end, end, overlaps}
 use Rattle.bao_types.specs.Shape.{event_limit, port_range, port_size, memory_limit}
-use Rattle.bao_config.specs.declared.config.PortPlace.{PortPlace}
 use Rattle.bao_config.specs.Bounds.{IsInBounds, entries}
 use Rattle.bao_config.specs.Data.{ConfigData, VmData}
 use Rattle.bao_config.specs.Fits.{ConfigFits, PortFits}
-use Rattle.bao_wellformed.specs.Break.{indexed}
-use Rattle.bao_wellformed.specs.Laws.{IsVm}
-use Rattle.bao_wellformed.specs.Rules.{all_ranges, are_too_near, distributor, frame, lies_in_a_bank, passing_bank, pieces, plain, redistributors, regions_outside, vm_ranges}
+use Rattle.bao_wellformed.specs.Rules.{all_ranges, are_too_near, distributor, passing_bank, pieces, plain, redistributors, vm_ranges}
 use Rattle.bao_wellformed.specs.WellFormed.{IsWellFormed}
-use Rattle.bao_wellformed.proofs.Empty.{all_fail, any_got, indexed_got, left_got, map_empty, map_got, none_in_each, none_passes, none_passes_in}
+use Rattle.bao_wellformed.proofs.Empty.{all_fail, map_empty, none_passes_in}
 use Rattle.bao_wellformed.proofs.Kept.{IsKept, kept}
 use Rattle.board.specs.Ports.{port_count}
 use Rattle.board.specs.Machine.{IsFittable}
