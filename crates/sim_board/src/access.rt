@@ -108,7 +108,8 @@ pub(crate) fn read_elements<D: Devices>(memory: &Banks, devices: &mut D, shape: 
     requires aligned { is_misaligned shape.now ≡ false }
     ensures value { result
         ≡ elements_value (source_in (byte_at memory.now) (D.view devices.old)) shape.now.at shape.now.width shape.now.count }
-    ensures accessed { AreAccessed (λ places. elements_read places shape.now.at shape.now.width shape.now.count) (D.view devices.old) (D.view devices.new) }
+    ensures accessed { AreAccessed (λ places. elements_read places shape.now.at shape.now.width shape.now.count)
+        (D.view devices.old) (D.view devices.new) }
     ensures room { D.room devices.new ≡ D.room devices.old }
 {
     let first = read_element(memory, devices, shape.at, shape.width);
@@ -151,7 +152,8 @@ pub(crate) fn write_elements<D: Devices>(
     ensures bytes { byte_at memory.new
         ≡ written (elements_stored (places_in (D.view devices.old)) shape.now.at shape.now.width shape.now.count value)
         (byte_at memory.old) }
-    ensures accessed { AreAccessed (λ places. elements_written places shape.now.at shape.now.width shape.now.count value) (D.view devices.old) (D.view devices.new) }
+    ensures accessed { AreAccessed (λ places. elements_written places shape.now.at shape.now.width shape.now.count value)
+        (D.view devices.old) (D.view devices.new) }
     ensures room { D.room devices.old ≤ D.room devices.new + 2 }
 {
     write_element(memory, devices, shape.at, shape.width, value);
