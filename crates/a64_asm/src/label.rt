@@ -1,7 +1,7 @@
 //! Labels, and what a branch names.
-ghost use Rattle.std.specs.Prelude.{◌≡◌, ◌<◌, ◌^◌, ◌+◌, ◌≤◌, ℕ, List, length, MatchOption, MatchResult, Some, None};
+ghost use Rattle.std.specs.Prelude.{◌≡◌, ◌<◌, ◌^◌, ◌+◌, ℕ, List, length, MatchOption, MatchResult, Some, None};
 ghost use Rattle.std.specs.List.{list_all};
-ghost use Rattle.a64_asm.specs.Operand.{is_letter, is_name_byte, is_name, begins_with_letter, distance_of, signed_of, distance_between, distance_to, target_of, words_in, fits_field, words_to};
+ghost use Rattle.a64_asm.specs.Operand.{is_letter, is_name_byte, is_name, begins_with_letter, distance_of, signed_of, distance_between, target_of, words_in, fits_field, words_to};
 ghost use Rattle.std.specs.Option.{option_or};
 ghost use Rattle.a64_asm.specs.declared.error.AsmError.TheVariants.{OutOfMemory};
 ghost use Rattle.a64_asm.specs.Labels.{looked_up};
