@@ -1,6 +1,6 @@
 use Rattle.std.proofs.Common.{refl}
+use Rattle.numerals.specs.Hex.{hex}
 use Rattle.report.specs.Lines.{core_parked_line}
-use Rattle.report.specs.Digits.{hex}
 use Rattle.system_tests.proofs.worked_rows.parked_row.Goals as goal
 
 pub returns : goal.returns
