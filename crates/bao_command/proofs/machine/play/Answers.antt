@@ -1,6 +1,6 @@
 use Rattle.std.proofs.Common.{rules, ◌∙◌, refl, ◌≡◌, length}
 use Rattle.ports.specs.PortState.{new_port, PortState}
-use Rattle.bao_command.proofs.Listed.{one_more, console_at, scratch_at, ticker_at, all_standard}
+use Rattle.sim_board.proofs.Listed.{one_more, console_at, scratch_at, ticker_at, all_standard}
 use Rattle.ports.specs.declared.port.PortKind.TheVariants as PortKind
 use Rattle.sim_board.specs.contracts.machine.SimBoard.new.{dyn-1-ghosts}
 use Rattle.bao_command.proofs.machine.play.OwnLists.{own-1, lawful-own-1, at-1-1, at-1-2, at-1-3}

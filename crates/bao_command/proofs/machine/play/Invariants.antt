@@ -1,5 +1,5 @@
 use Rattle.std.proofs.Common.{◌≡◌, map, length, ◌+◌}
-use Rattle.bao_command.proofs.Listed.{AreStandard}
+use Rattle.sim_board.proofs.Listed.{AreStandard}
 use Rattle.sim_board.specs.contracts.machine.SimBoard.new.{dyn-1-ghosts}
 use Rattle.bao_command.proofs.machine.play.OwnLists.{own-1, lawful-own-1}
 use Rattle.bao_command.proofs.machine.play.Given as goal
