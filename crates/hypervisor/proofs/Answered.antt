@@ -62,18 +62,17 @@ keeps-changed vm next core id change keeps =
     }
 
 keeps-bits : (vm : Interrupts) (core : ℕ) (change : IdState → IdState) (value first count : ℕ)
-    → KeepsCores vm (changed_by_bits vm core change value first count)
+    → KeepsCores vm (changed_by_bits (λ id vm. changed vm core id change) vm value first count)
 unfolding changed_by_bits
 keeps-bits vm core change value first zero = keeps-none vm
 keeps-bits vm core change value first (suc count) =
-    by_test (bit_at value count == 1) (keeps-bits vm core change value first count)
+    by_test (bit_at value count == 1) (changed_by_bits (λ id vm. changed vm core id change) vm value first count)
+    (keeps-bits vm core change value first count)
   where
-    by_test : (test : Bool) → KeepsCores vm (changed_by_bits vm core change value first count)
-        → KeepsCores vm
-        (if test then changed (changed_by_bits vm core change value first count) core (first + count) change
-        else changed_by_bits vm core change value first count)
-    by_test true rest = keeps-changed vm (changed_by_bits vm core change value first count) core (first + count) change rest
-    by_test false rest = rest
+    by_test : (test : Bool) (before : Interrupts) → KeepsCores vm before
+        → KeepsCores vm (if test then changed before core (first + count) change else before)
+    by_test true before rest = keeps-changed vm before core (first + count) change rest
+    by_test false before rest = rest
 
 keeps-bytes : (vm : Interrupts) (core value first count : ℕ) → KeepsCores vm (with_priorities vm core value first count)
 unfolding with_priorities

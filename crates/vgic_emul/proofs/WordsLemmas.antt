@@ -33,23 +33,22 @@ flag_bits-lt vm core flag first (suc count) = by_test (flag (state_of vm core (f
     by_test true rest = rw pow-suc (omega (arith, rest))
     by_test false rest = rw pow-suc (omega (arith, rest))
 
-pub changed_by_bits-none : (vm : Interrupts) (core : ℕ) (change : IdState → IdState) (value first : ℕ) →
-    changed_by_bits vm core change value first 0 ≡ vm
+pub changed_by_bits-none : (change : ℕ → Interrupts → Interrupts) (vm : Interrupts) (value first : ℕ) →
+    changed_by_bits change vm value first 0 ≡ vm
 unfolding changed_by_bits
-changed_by_bits-none vm core change value first = refl
+changed_by_bits-none change vm value first = refl
 
-pub changed_by_bits-set : (vm : Interrupts) (core : ℕ) (change : IdState → IdState) (value first count : ℕ) → bit_at value count ≡ 1 →
-    changed_by_bits vm core change value first (count + 1)
-    ≡ changed (changed_by_bits vm core change value first count) core (first + count) change
+pub changed_by_bits-set : (change : ℕ → Interrupts → Interrupts) (vm : Interrupts) (value first count : ℕ) → bit_at value count ≡ 1 →
+    changed_by_bits change vm value first (count + 1) ≡ change (first + count) (changed_by_bits change vm value first count)
 unfolding changed_by_bits
-changed_by_bits-set vm core change value first count set =
+changed_by_bits-set change vm value first count set =
     let test : (bit_at value count == 1) ≡ true = eq-eqb _ _ set in
     rw (add-one, test) refl
 
-pub changed_by_bits-clear : (vm : Interrupts) (core : ℕ) (change : IdState → IdState) (value first count : ℕ) → bit_at value count ≢ 1 →
-    changed_by_bits vm core change value first (count + 1) ≡ changed_by_bits vm core change value first count
+pub changed_by_bits-clear : (change : ℕ → Interrupts → Interrupts) (vm : Interrupts) (value first count : ℕ) → bit_at value count ≢ 1 →
+    changed_by_bits change vm value first (count + 1) ≡ changed_by_bits change vm value first count
 unfolding changed_by_bits
-changed_by_bits-clear vm core change value first count clear =
+changed_by_bits-clear change vm value first count clear =
     let test : (bit_at value count == 1) ≡ false = ne_eqb _ _ clear in
     rw (add-one, test) refl
 

@@ -22,11 +22,11 @@ flag_bits vm core flag first (suc count) =
     flag_bits vm core flag first count + (if flag (state_of vm core (first + count)) then 2 ^ count else 0)
 
 -- those of the ids from `first` on, so many, are changed of which the value has the bit
-unfoldable pub changed_by_bits : Interrupts → ℕ → (IdState → IdState) → ℕ → ℕ → ℕ → Interrupts
-changed_by_bits vm core change value first zero = vm
-changed_by_bits vm core change value first (suc count) =
-    let before = changed_by_bits vm core change value first count in
-    if bit_at value count == 1 then changed before core (first + count) change else before
+unfoldable pub changed_by_bits : (ℕ → Interrupts → Interrupts) → Interrupts → ℕ → ℕ → ℕ → Interrupts
+changed_by_bits change vm value first zero = vm
+changed_by_bits change vm value first (suc count) =
+    let before = changed_by_bits change vm value first count in
+    if bit_at value count == 1 then change (first + count) before else before
 
 -- the number whose bytes, so many, are the priorities of the ids from `first` on
 unfoldable pub priority_bytes : Interrupts → ℕ → ℕ → ℕ → ℕ
@@ -94,7 +94,7 @@ core_type = record {
 abbrev pub flags : (IdState → Bool) → (IdState → IdState) → Effect
 flags flag change = record {
   reads = λ vm core offset width. flag_bits vm core flag (first_flagged offset) 32;
-  keeps = λ vm core offset width value. changed_by_bits vm core change value (first_flagged offset) 32;
+  keeps = λ vm core offset width value. changed_by_bits (λ id vm. changed vm core id change) vm value (first_flagged offset) 32;
 }
 
 -- a byte an id, its priority

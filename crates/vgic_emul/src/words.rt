@@ -1,6 +1,6 @@
 ghost use Rattle.std.specs.Prelude.{◌≡◌, ◌<◌, ◌≤◌, ◌+◌, ◌*◌, ◌^◌};
 ghost use Rattle.bao_types.specs.Controller.{id_end};
-ghost use Rattle.vgic_emul.specs.Effects.{changed_by_bits, flag_bits, priority_bytes, with_priorities};
+ghost use Rattle.vgic_emul.specs.Effects.{changed, changed_by_bits, flag_bits, priority_bytes, with_priorities};
 ghost use Rattle.vgic_emul.specs.Reached.{has, with_flag};
 
 use crate::register::Flag;
@@ -33,7 +33,7 @@ pub(crate) fn write_flags(
 )
     requires core { core < 8 }
     requires first { first ≤ 64 }
-    ensures { table.new ≡ changed_by_bits table.old core (with_flag flag on) value first 32 }
+    ensures { table.new ≡ changed_by_bits (λ id vm. changed vm core id (with_flag flag on)) table.old value first 32 }
 {
     for bit in 0..32u16 {
         if (value >> bit) % 2 == 1 {
