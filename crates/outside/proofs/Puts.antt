@@ -19,7 +19,7 @@ unfolding grown
 grown-nil None = refl
 grown-nil (Some taken) = ap Some (append-nil taken)
 
--- one text behind another
+-- one text after another
 pub grown-grown : (old : Option (List ℕ)) (first second : List ℕ) → grown (grown old first) second ≡ grown old (first ++ second)
 unfolding grown
 grown-grown None first second = refl
@@ -54,7 +54,7 @@ part_second old now new first second one part = record {
   grows = grows_on old now new first part.part one part.grows;
 }
 
--- two parts, one behind the other
+-- two parts, one after the other
 pub ruleset in_parts = (grows_on, part_first, part_second)
 
 -- Of a text, all but `left` is taken: what a loop over the parts keeps.
@@ -67,7 +67,7 @@ pub record Reached (old now : Option (List ℕ)) (text left : List ℕ) : Type 0
 pub begun : (old : Option (List ℕ)) (text : List ℕ) → Reached old old text text
 begun old text = record { done = []; splits = refl; grows = sym (grown-nil old) }
 
--- behind one more part
+-- after one more part
 pub further : (old now new : Option (List ℕ)) (text piece left : List ℕ)
     → Reached old now text (piece ++ left) → new ≡ grown now piece → Reached old new text left
 further old now new text piece left reached grew = record {
@@ -76,7 +76,7 @@ further old now new text piece left reached grew = record {
   grows = grows_on old now new reached.done piece reached.grows grew;
 }
 
--- behind the last part
+-- after the last part
 pub finished : (old now : Option (List ℕ)) (text : List ℕ) → Reached old now text [] → now ≡ grown old text
 finished old now text reached = reached.grows ∙ ap (grown old) (sym (reached.splits ∙ append-nil reached.done))
 
@@ -88,7 +88,7 @@ stopped old now new text piece left reached part =
     part_second old now new reached.done (piece ++ left) reached.grows (part_first now new piece left part)
     in subst (TakesPart old new) (sym reached.splits) whole
 
--- what is left before a part and behind it, where a text is that of the elements of a list
+-- what is left before a part and after it, where a text is that of the elements of a list
 pub flat_map-drop : {X : Type 0} (f : X → List ℕ) (xs : List X) (i : ℕ) (x : X) → i < length xs → x ≡ get_or xs i x
     → flat_map f (drop i xs) ≡ f x ++ flat_map f (drop (i + 1) xs)
 flat_map-drop f xs i x inside at =

@@ -18,7 +18,7 @@ abbrev pub next_answer : MemShelfData → List ℕ → ℕ → Result (List ℕ)
 next_answer shelf name limit =
     if is_listed shelf.failing (next_call shelf.calls) then Err Failed else answer_within (content_of shelf.files name) limit
 
--- the shelf behind a fetch with this answer
+-- the shelf after a fetch with this answer
 abbrev pub after_fetch : {T : Type 0} → MemShelfData → List ℕ → Result T ShelfError → MemShelfData
 after_fetch shelf name (Ok file) = record shelf { calls = next_call shelf.calls }
 after_fetch shelf name (Err TooLong) = record shelf { calls = next_call shelf.calls }

@@ -17,7 +17,7 @@ will_fail sink [] = false
 will_fail sink (byte ∷ bytes) =
     is_listed sink.failing (next_call sink.calls) || nat_lt sink.room (length sink.taken + length (byte ∷ bytes))
 
--- the sink behind a put of these bytes with this answer
+-- the sink after a put of these bytes with this answer
 abbrev pub after_put : {T E : Type 0} → MemSinkData → List ℕ → Result T E → MemSinkData
 after_put sink bytes (Ok _) = record sink { taken = sink.taken ++ bytes; calls = next_call sink.calls }
 after_put sink bytes (Err _) = record sink { calls = next_call sink.calls; faults = risen sink.faults }

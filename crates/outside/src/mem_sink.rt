@@ -102,7 +102,7 @@ impl Sink for MemSink {
     }
 }
 
-/// Puts the bytes behind the others, in memory that is there already.
+/// Puts the bytes after the others, in memory that is there already.
 fn append(taken: &mut Vec<u8>, bytes: &[u8])
     requires { length taken.old.items + length bytes.now ≤ vec_capacity taken.old }
     ensures items { taken.new.items ≡ taken.old.items ++ bytes.now }

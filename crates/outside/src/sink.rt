@@ -12,7 +12,7 @@ pub trait Sink {
     /// How often a put has failed. It never falls, and stands still at 2^64 - 1.
     ghost faults: { Self → ℕ };
 
-    /// Puts all of `bytes` behind what the sink has taken. After a failure it may have taken some first ones of them. A
+    /// Puts all of `bytes` after what the sink has taken. After a failure it may have taken some first ones of them. A
     /// put of no bytes doesn't fail.
     fn put(&mut self, bytes: &[u8]) -> Result<(), SinkFailed>
         ensures taken { Takes (taken self.old) (taken self.new) bytes.now result }

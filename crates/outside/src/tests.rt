@@ -350,7 +350,7 @@ fn error_texts(rt: HostRuntime) -> Result<(), Fail> {
     Ok(())
 }
 
-/// Three texts, one behind the other: how a caller's promise on a whole text follows from the puts of its parts.
+/// Three texts, one after the other: how a caller's promise on a whole text follows from the puts of its parts.
 #[tactic(auto, using(crate::proofs::Puts::in_parts))]
 fn put_three<K: Sink>(
     sink: &mut K,
