@@ -6,6 +6,7 @@ use Rattle.std.specs.Str.{bytes_eq}
 use Rattle.std.proofs.Math.ListN.{drop_of_length-le}
 use Rattle.std.proofs.lemmas.Bool.Decides.{nat_tests}
 use Rattle.bao_config.specs.Data.{ConfigData, VmData}
+use Rattle.bao_wellformed.specs.Checked.{checked_data}
 use Rattle.outside.specs.Faults.{risen}
 use Rattle.outside.specs.Shelf.{Blame, Files, IfHeld, IfTold}
 use Rattle.outside.specs.Use.{ShelfUse, IsFaultless}
@@ -25,7 +26,7 @@ use Rattle.bao_run.specs.Ruling.{Ruling, Refused, Missing, Shown, Accept, rule_c
 use Rattle.hypervisor.specs.Event.{flat_event}
 use Rattle.bao_run.specs.declared.config.Packed.{Packed}
 use Rattle.bao_run.specs.Input.{IsFetch, IsCheckAnswer, IsRefused, IsRuledBy, Named, files_of, first_named, lacking}
-use Rattle.bao_run.specs.Reading.{HoldsConfig, IsConfigAnswer, AreImages, HasCome, IsImagesAnswer, IsPackedAnswer, IsPackable, schedule_status}
+use Rattle.bao_run.specs.Reading.{HoldsConfig, IsConfigAnswer, AreImages, HasCome, HasImages, IsImagesAnswer, IsPackedAnswer, IsPackedFor, IsPackable, schedule_status}
 use Rattle.bao_run.proofs.Rules.{config_passes, images_pass, same_itself, IsNext, names, missed, is_next, at_schedule}
 use Rattle.bao_run.proofs.Fetches.{schedule_told}
 
@@ -193,88 +194,115 @@ module _ (shelf : ShelfUse) (config schedule : List ℕ) (cfg : ConfigData) (hol
       images_refused status.WriteFault h = absurd h
       images_refused status.OutOfMemory h = h ∙ same_faults
 
-      -- all images have come: the schedule decides
-      module _ (images : List (List ℕ)) (count : length images ≡ length cfg.vms) (told : IfHeld shelf.held (λ files. AreImages files cfg.vms images)) where
-        schedule_rules : (files : Files) → HoldsConfig files config cfg → AreImages files cfg.vms images
-            → rule_command files (Run config schedule) ≡ rule_schedule cfg images (files schedule)
-        schedule_rules files it come =
-            config_passes files config cfg it (rule_run files schedule) ∙ rules files
-            ∙ images_pass files (λ images. rule_schedule cfg images (files schedule)) 0 cfg.vms images come
-            ∙ none_left (drop (length images) cfg.vms) (drop_of_length-le cfg.vms (omega arith))
-          where
-            none_left : (vms : List VmData) → vms ≡ []
-                → rule_images files (λ others. rule_schedule cfg (images ++ others) (files schedule)) (0 + length images) vms
-                ≡ rule_schedule cfg images (files schedule)
-            none_left [] e = ap (λ images. rule_schedule cfg images (files schedule)) (append-nil images)
-            none_left (vm ∷ vms) e = cc
+-- What a run has read before its schedule: a well-formed configuration all of whose cores have a packing, and the image of each
+-- VM. The shelf has as many faults there as at the start.
+pub record HasRead (config : List ℕ) (cfg : ConfigData) (images : List (List ℕ)) (start : Blame) (shelf : ShelfUse) : Type 0 where
+  pub holds : IfHeld shelf.held (λ files. HoldsConfig files config cfg)
+  pub packable : IsPackable cfg
+  pub count : length images ≡ length cfg.vms
+  pub told : IfHeld shelf.held (λ files. AreImages files cfg.vms images)
+  pub same_faults : shelf.before.faults ≡ start.faults
 
-        by_schedule : (P : Files → Type 0) (decided : Ruling) → IfHeld shelf.held P
-            → ((files : Files) → P files → rule_schedule cfg images (files schedule) ≡ decided)
-            → IfHeld shelf.held (λ files. rule_command files (Run config schedule) ≡ decided)
-        by_schedule P decided told' step =
-            both shelf.held (λ files. HoldsConfig files config cfg) (λ files. AreImages files cfg.vms images × P files)
-            (λ files. rule_command files (Run config schedule) ≡ decided)
-            (λ files it p. schedule_rules files it p.0 ∙ step files p.1) holds
-            (both shelf.held (λ files. AreImages files cfg.vms images) P (λ files. AreImages files cfg.vms images × P files) (λ files come p. (come, p)) told told')
+-- it has, once each call before has answered
+pub has_read : (found : ConfigData) (packed : Packed) (config : List ℕ) (images : List (List ℕ)) (first second : ShelfUse) (new : Blame)
+    → second.held ≡ first.held → second.before.faults ≡ first.after.faults
+    → IfHeld first.held (λ files. HoldsConfig files config found) × IsFaultless first → IsPackedFor found packed
+    → HasImages second (checked_data packed.checked) images
+    → HasRead config (checked_data packed.checked) images first.before (record { held = first.held; before = second.after; after = new })
+has_read found packed config images first second new held faults checked packs has = record {
+  holds = subst (λ cfg. IfHeld first.held (λ files. HoldsConfig files config cfg)) (sym packs.same) checked.0;
+  packable = subst IsPackable (sym packs.same) packs.packable;
+  count = has.rooms.count;
+  told = subst (λ held. IfHeld held (λ files. AreImages files (checked_data packed.checked).vms images)) held has.told;
+  same_faults = has.read ∙ faults ∙ checked.1;
+}
 
-        long_schedule : (content : Option (List ℕ)) → IsSomeAnd content (λ bytes. schedule_limit < length bytes)
-            → rule_schedule cfg images content ≡ Refused (status.TooLong file.Schedule schedule_limit)
-        long_schedule None h = absurd h
-        long_schedule (Some bytes) h =
-            let more : nat_lt schedule_limit (length bytes) ≡ true = grind (arith, nat_tests) in rw more refl
+-- all images have come: the schedule decides
+module _ (config schedule : List ℕ) (cfg : ConfigData) (images : List (List ℕ)) (start : Blame) (shelf : ShelfUse)
+    (read : HasRead config cfg images start shelf) where
+  abbrev from_start : ShelfUse
+  from_start = record { held = shelf.held; before = start; after = shelf.after }
 
-        pub schedule_refused : (blamed : FileId)
-            → blamed ≡ unwrap_or (first_named schedule (files_of (Run config schedule) cfg)) file.Schedule
-            → (decided : Status)
-            → IsFetch shelf (record { file = file.Schedule; blamed = blamed; name = schedule; limit = schedule_limit }) (Err decided)
-            → IsRefused whole (Run config schedule) decided
-        schedule_refused blamed at status.Done h = absurd h
-        schedule_refused blamed at status.Usage h = absurd h
-        schedule_refused blamed at (status.ReadFault id) h =
-            let first = schedule_told config schedule cfg blamed at ∙ ap Some (sym h.0) in
-            record {
-              name = schedule;
-              failed = (h.1.0 ∙ ap risen same_faults, h.1.1);
-              cfg = cfg;
-              first = first;
-              told = both shelf.held (λ files. HoldsConfig files config cfg) (λ files. AreImages files cfg.vms images)
-                  (λ files. rule_command (lacking schedule files) (Run config schedule) ≡ Missing id)
-                  (λ files it come. missed_first files it schedule images come
-                  (at_schedule files schedule schedule cfg.vms images count (same_itself schedule)) id first) holds told;
-            }
-        schedule_refused blamed at (status.TooLong id limit) h =
-            let P : Files → Type 0 = λ files. IsSomeAnd (files schedule) (λ bytes. schedule_limit < length bytes) in (
-              by_schedule P (Refused (status.TooLong id limit))
-                  h.0
-                  (λ files long. long_schedule (files schedule) long
-                  ∙ ap (λ id. Refused (status.TooLong id schedule_limit)) (sym h.1) ∙ ap (λ limit. Refused (status.TooLong id limit)) (sym h.2)),
-              h.3 ∙ same_faults,
-            )
-        schedule_refused blamed at status.BadToml h = absurd h
-        schedule_refused blamed at (status.IllConfig why) h = absurd h
-        schedule_refused blamed at (status.TooMany core runs entries) h = absurd h
-        schedule_refused blamed at (status.BadSchedule line rule) h = absurd h
-        schedule_refused blamed at status.WriteFault h = absurd h
-        schedule_refused blamed at status.OutOfMemory h = h ∙ same_faults
+  schedule_rules : (files : Files) → HoldsConfig files config cfg → AreImages files cfg.vms images
+      → rule_command files (Run config schedule) ≡ rule_schedule cfg images (files schedule)
+  schedule_rules files it come =
+      config_passes files config cfg it (rule_run files schedule) ∙ rules shelf config schedule cfg read.holds read.packable files
+      ∙ images_pass files (λ images. rule_schedule cfg images (files schedule)) 0 cfg.vms images come
+      ∙ none_left (drop (length images) cfg.vms) (drop_of_length-le cfg.vms (let count = read.count in omega (arith, count)))
+    where
+      none_left : (vms : List VmData) → vms ≡ []
+          → rule_images files (λ others. rule_schedule cfg (images ++ others) (files schedule)) (0 + length images) vms
+          ≡ rule_schedule cfg images (files schedule)
+      none_left [] e = ap (λ images. rule_schedule cfg images (files schedule)) (append-nil images)
+      none_left (vm ∷ vms) e = cc
 
-        -- the bytes of the schedule have come
-        module _ (bytes : List ℕ) (content : IfTold shelf.held schedule (λ content. content ≡ Some bytes)) (short : length bytes ≤ schedule_limit)
-            (faultless : IsFaultless shelf) where
-          by_bytes : (decided : Ruling) → rule_events cfg images (schedule_of cfg bytes) ≡ decided → IsRuledBy whole (Run config schedule) decided
-          by_bytes decided is = (
-            by_schedule (λ files. files schedule ≡ Some bytes) decided content
-                (λ files held.
-                let few : nat_lt schedule_limit (length bytes) ≡ false = grind (arith, nat_tests) in rw (held, few) is),
-            faultless ∙ same_faults,
-          )
+  by_schedule : (P : Files → Type 0) (decided : Ruling) → IfHeld shelf.held P
+      → ((files : Files) → P files → rule_schedule cfg images (files schedule) ≡ decided)
+      → IfHeld shelf.held (λ files. rule_command files (Run config schedule) ≡ decided)
+  by_schedule P decided told step =
+      both shelf.held (λ files. HoldsConfig files config cfg) (λ files. AreImages files cfg.vms images × P files)
+      (λ files. rule_command files (Run config schedule) ≡ decided)
+      (λ files it p. schedule_rules files it p.0 ∙ step files p.1) read.holds
+      (both shelf.held (λ files. AreImages files cfg.vms images) P (λ files. AreImages files cfg.vms images × P files) (λ files come p. (come, p)) read.told told)
 
-          pub events_refused : (fault : ScheduleError) → TellsBroken (schedule_of cfg bytes) fault
-              → IsRefused whole (Run config schedule) (schedule_status fault)
-          events_refused (schedule_error.Bad line rule) h =
-              (tt, by_bytes (Refused (status.BadSchedule line rule)) (ap (rule_events cfg images) h))
-          events_refused schedule_error.OutOfMemory h = faultless ∙ same_faults
+  long_schedule : (content : Option (List ℕ)) → IsSomeAnd content (λ bytes. schedule_limit < length bytes)
+      → rule_schedule cfg images content ≡ Refused (status.TooLong file.Schedule schedule_limit)
+  long_schedule None h = absurd h
+  long_schedule (Some bytes) h =
+      let more : nat_lt schedule_limit (length bytes) ≡ true = grind (arith, nat_tests) in rw more refl
 
-          pub accepts : (events : List Event) → schedule_of cfg bytes ≡ Events events
-              → IsRuledBy whole (Run config schedule) (Accept (record { cfg = cfg; images = images; events = map flat_event events }))
-          accepts events is =
-              by_bytes (Accept (record { cfg = cfg; images = images; events = map flat_event events })) (ap (rule_events cfg images) is)
+  pub schedule_refused : (blamed : FileId)
+      → blamed ≡ unwrap_or (first_named schedule (files_of (Run config schedule) cfg)) file.Schedule
+      → (decided : Status)
+      → IsFetch shelf (record { file = file.Schedule; blamed = blamed; name = schedule; limit = schedule_limit }) (Err decided)
+      → IsRefused from_start (Run config schedule) decided
+  schedule_refused blamed at status.Done h = absurd h
+  schedule_refused blamed at status.Usage h = absurd h
+  schedule_refused blamed at (status.ReadFault id) h =
+      let first = schedule_told config schedule cfg blamed at ∙ ap Some (sym h.0) in
+      record {
+        name = schedule;
+        failed = (h.1.0 ∙ ap risen read.same_faults, h.1.1);
+        cfg = cfg;
+        first = first;
+        told = both shelf.held (λ files. HoldsConfig files config cfg) (λ files. AreImages files cfg.vms images)
+            (λ files. rule_command (lacking schedule files) (Run config schedule) ≡ Missing id)
+            (λ files it come. missed_first shelf config schedule cfg read.holds read.packable files it schedule images come
+            (at_schedule files schedule schedule cfg.vms images read.count (same_itself schedule)) id first) read.holds read.told;
+      }
+  schedule_refused blamed at (status.TooLong id limit) h =
+      let P : Files → Type 0 = λ files. IsSomeAnd (files schedule) (λ bytes. schedule_limit < length bytes) in (
+        by_schedule P (Refused (status.TooLong id limit))
+            h.0
+            (λ files long. long_schedule (files schedule) long
+            ∙ ap (λ id. Refused (status.TooLong id schedule_limit)) (sym h.1) ∙ ap (λ limit. Refused (status.TooLong id limit)) (sym h.2)),
+        h.3 ∙ read.same_faults,
+      )
+  schedule_refused blamed at status.BadToml h = absurd h
+  schedule_refused blamed at (status.IllConfig why) h = absurd h
+  schedule_refused blamed at (status.TooMany core runs entries) h = absurd h
+  schedule_refused blamed at (status.BadSchedule line rule) h = absurd h
+  schedule_refused blamed at status.WriteFault h = absurd h
+  schedule_refused blamed at status.OutOfMemory h = h ∙ read.same_faults
+
+  -- the bytes of the schedule have come
+  module _ (bytes : List ℕ) (content : IfTold shelf.held schedule (λ content. content ≡ Some bytes)) (short : length bytes ≤ schedule_limit)
+      (faultless : IsFaultless shelf) where
+    by_bytes : (decided : Ruling) → rule_events cfg images (schedule_of cfg bytes) ≡ decided → IsRuledBy from_start (Run config schedule) decided
+    by_bytes decided is = (
+      by_schedule (λ files. files schedule ≡ Some bytes) decided content
+          (λ files held.
+          let few : nat_lt schedule_limit (length bytes) ≡ false = grind (arith, nat_tests) in rw (held, few) is),
+      faultless ∙ read.same_faults,
+    )
+
+    pub events_refused : (fault : ScheduleError) → TellsBroken (schedule_of cfg bytes) fault
+        → IsRefused from_start (Run config schedule) (schedule_status fault)
+    events_refused (schedule_error.Bad line rule) h =
+        (tt, by_bytes (Refused (status.BadSchedule line rule)) (ap (rule_events cfg images) h))
+    events_refused schedule_error.OutOfMemory h = faultless ∙ read.same_faults
+
+    pub accepts : (events : List Event) → schedule_of cfg bytes ≡ Events events
+        → IsRuledBy from_start (Run config schedule) (Accept (record { cfg = cfg; images = images; events = map flat_event events }))
+    accepts events is =
+        by_bytes (Accept (record { cfg = cfg; images = images; events = map flat_event events })) (ap (rule_events cfg images) is)

@@ -1,4 +1,4 @@
-ghost use Rattle.std.specs.Prelude.{◌≡◌, [], map, string_bytes, length, IsTrue, true, false, IfOk, OnOk, OnErr};
+ghost use Rattle.std.specs.Prelude.{◌≡◌, map, string_bytes, length, IsTrue, true, false, IfOk, OnOk, OnErr};
 ghost use Rattle.board.specs.Ports.{standard_ports};
 ghost use Rattle.bao_wellformed.specs.Checked.{checked_data};
 ghost use Rattle.report.specs.Status.{is_refusal, refusal_text};
