@@ -1,4 +1,4 @@
-use Rattle.std.proofs.Common.{◌+◌, ◌≤◌, get_or, length, map, ap, arith}
+use Rattle.std.proofs.Common.{◌≤◌, get_or, length, map, ap, arith}
 use Rattle.bao_types.specs.Shape.{ShapeData}
 use Rattle.bao_wellformed.specs.Checked.{checked_data}
 use Rattle.hypervisor.specs.Event.{flat_event}
