@@ -1,5 +1,5 @@
 #!/usr/bin/env python3
-"""Writes the tables of crates/a64_alu/src/cases.rt: what each instruction does when qemu-aarch64 runs it.
+"""Writes the tables of crates/a64_tests/src/cases.rt: what each instruction does when qemu-aarch64 runs it.
 
 Outside the gate: it wants llvm-mc, llvm-objcopy and qemu-aarch64 (of Debian's package qemu-user), whose path the
 variable QEMU gives. All files are in a folder of its own, which it removes. The tables come on standard output.

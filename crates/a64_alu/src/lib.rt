@@ -9,8 +9,6 @@ pub use dispatch::{alu, is_alu};
 pub use result::low_x;
 
 mod add;
-#[cfg(test)]
-mod cases;
 mod condition;
 mod dispatch;
 mod immediate;
@@ -23,5 +21,3 @@ mod register;
 mod result;
 mod reversal;
 mod shift;
-#[cfg(test)]
-mod tests;

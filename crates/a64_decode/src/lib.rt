@@ -27,5 +27,3 @@ mod register;
 mod source;
 mod system;
 mod table;
-#[cfg(test)]
-mod tests;

@@ -9,6 +9,4 @@ pub use law::an_instruction_has_one_word;
 mod code;
 mod encoding;
 mod law;
-#[cfg(test)]
-mod tests;
 mod word;

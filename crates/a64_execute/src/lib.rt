@@ -12,6 +12,4 @@ mod completion;
 mod execute;
 mod need;
 mod system;
-#[cfg(test)]
-mod tests;
 mod transfer;

@@ -15,6 +15,4 @@ mod moment;
 mod reading;
 mod register;
 mod rights;
-#[cfg(test)]
-mod tests;
 mod writing;

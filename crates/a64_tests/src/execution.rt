@@ -1,5 +1,5 @@
-use crate::{Need, complete, complete_access, want};
 use a64_decode::decode;
+use a64_execute::{Need, complete, complete_access, want};
 use a64_state::{Core, Mode, pstate};
 use a64_sysreg::Moment;
 use std::process::Abort;

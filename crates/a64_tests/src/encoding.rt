@@ -1,9 +1,9 @@
-use crate::encode;
 use a64_decode::{
     BarrierKind, BitfieldKind, BranchKind, Condition, ExceptionKind, Extend, IndexMode, Instr,
     LiteralKind, LogicalKind, MoveKind, OneSourceKind, Operand, PairKind, ProductKind, PstateField,
     Reg, SelectKind, Shift, Size, Transfer, TwoSourceKind, decode,
 };
+use a64_encode::encode;
 use bao_types::SysId;
 use std::process::Abort;
 

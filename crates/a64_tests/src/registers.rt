@@ -1,5 +1,7 @@
-use crate::{Moment, SysRead, SysWrite, acknowledges, may_read, read_sys, write_answer, write_sys};
 use a64_state::{Core, Mode};
+use a64_sysreg::{
+    Moment, SysRead, SysWrite, acknowledges, may_read, read_sys, write_answer, write_sys,
+};
 use bao_types::SysId;
 use std::process::Abort;
 

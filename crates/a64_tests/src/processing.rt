@@ -1,7 +1,7 @@
 use crate::cases::{
     ADDED, ADDITIONS, CONDITIONS, LOGIC, MOVES, OLD, PRODUCTS, REVERSALS, Row, SPECIAL, STACK,
 };
-use crate::{alu, holds, is_alu, low_x};
+use a64_alu::{alu, holds, is_alu, low_x};
 use a64_decode::{Condition, Reg, decode};
 use a64_state::{Core, pstate};
 use std::process::Abort;

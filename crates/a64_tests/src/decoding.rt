@@ -1,4 +1,4 @@
-use crate::{
+use a64_decode::{
     BarrierKind, BitfieldKind, BranchKind, Condition, ExceptionKind, Extend, IndexMode, Instr,
     LiteralKind, LogicalKind, MoveKind, OneSourceKind, Operand, PairKind, ProductKind, PstateField,
     Reg, SelectKind, Shift, Size, Transfer, TwoSourceKind, access_of, decode, extended, loaded,
