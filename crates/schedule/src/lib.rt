@@ -13,13 +13,9 @@ mod number;
 mod places;
 mod progress;
 mod read;
-#[cfg(test)]
-mod tests;
 mod workload;
 mod workload_config;
 mod workload_images;
-#[cfg(test)]
-mod workload_tests;
 
 pub use error::ScheduleError;
 pub use law::{laws_of_lines, laws_of_workloads};

@@ -1,7 +1,7 @@
 //! Tests of the generated workload.
-use crate::{Workload, make_workload};
 use bao_types::OutOfMemory;
 use hypervisor::Event;
+use schedule::{Workload, make_workload};
 use std::alloc::{AllocError, Global};
 use std::process::Abort;
 
@@ -37,7 +37,7 @@ fn made(alloc: Global, n: u32) -> Result<Workload, AllocError> {
     }
 }
 
-/// Writes the words of an image behind a text.
+/// Writes the words of an image after a text.
 fn tell_words(alloc: Global, text: &mut String, image: &[u8]) -> Result<(), AllocError> {
     for place in 0..image.len() / 4 {
         text.push(' ')?;
@@ -49,7 +49,7 @@ fn tell_words(alloc: Global, text: &mut String, image: &[u8]) -> Result<(), Allo
     Ok(())
 }
 
-/// An event behind a bar, as it is written in a schedule.
+/// An event after a bar, as it is written in a schedule.
 fn cell(alloc: Global, event: &Event) -> Result<String, AllocError> {
     match event {
         Event::Step { core, count } => format!(in alloc; "|s {core} {count}"),
@@ -57,7 +57,7 @@ fn cell(alloc: Global, event: &Event) -> Result<String, AllocError> {
     }
 }
 
-/// Writes at most twenty events from a number on behind a text, as a line.
+/// Writes at most twenty events from a number on after a text, as a line.
 fn tell_events(
     alloc: Global,
     text: &mut String,

@@ -1,6 +1,7 @@
-use crate::{ScheduleError, read_schedule};
+//! Tests of a schedule's form and rules.
 use bao_config::read_config;
 use bao_wellformed::{Checked, check};
+use schedule::{ScheduleError, read_schedule};
 use std::alloc::{AllocError, Global};
 use std::process::Abort;
 
@@ -122,8 +123,8 @@ fn schedules(rt: HostRuntime) -> Result<(), AllocError> {
     Ok(())
 }
 
-/// What is said of a million events with this text behind them.
-fn told_behind(alloc: Global, end: &str) -> Result<String, AllocError> {
+/// What is said of a million events with this text after them.
+fn told_after(alloc: Global, end: &str) -> Result<String, AllocError> {
     let mut text = String::new(alloc);
     for _event in 0..1_000_000 {
         text.push_str("s 0 9\n")?;
@@ -143,7 +144,7 @@ static ENDS: [(&str, &str); 5] = [
 #[test]
 fn a_million_events(rt: HostRuntime) -> Result<(), AllocError> {
     for (end, want) in ENDS.as_slice() {
-        let said = told_behind(rt.alloc(), end)?;
+        let said = told_after(rt.alloc(), end)?;
         assert!(rt; said.as_str() == *want, "{end}: {said}");
     }
     Ok(())
