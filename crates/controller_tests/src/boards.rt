@@ -7,30 +7,49 @@ use std::process::Abort;
 use std::test::Fail;
 
 /// Four cores, two consoles and a controller.
-const PLATFORM: &str = "version = 1\nhypervisor = { base = 0x0, size = 0x10000 }\n\
+static PLATFORM: &str = "version = 1\nhypervisor = { base = 0x0, size = 0x10000 }\n\
     [platform]\ncores = [16, 16, 16, 16]\ngicd = 0xaf000000\ngicr = 0xaf100000\n\
     banks = [{ base = 0x0, size = 0x200000 }]\n\
     ports = [{ id = 0, base = 0x9c090000, spi = 32 }, { id = 1, base = 0x9c0a0000, spi = 33 }]\n";
 
-/// The name of a VM, its cores, the begin of its memory, and its port.
-pub(crate) type Vm = (&'static str, &'static str, u32, u8);
-
-pub(crate) const ONE_CORE: Vm = ("a", "[0]", 0x10_0000, 0);
-
-pub(crate) const TWO_CORES: Vm = ("a", "[0, 1]", 0x10_0000, 0);
-
-pub(crate) const OTHER: Vm = ("b", "[2, 3]", 0x14_0000, 1);
-
 /// The table of a VM, whose guest begins at the begin of its memory.
-fn table_of(alloc: Global, vm: Vm) -> Result<String, Fail> {
-    let (name, cores, base, port) = vm;
-    Ok(format!(in alloc;
-        "[[vm]]\nname = \"{name}\"\nimage = \"{name}.bin\"\ncores = {cores}\n\
-        load = {base}\nentry = {base}\nroom = 0x8000\n\
-        regions = [{{ base = {base}, size = 0x10000, access = \"rwx\" }}]\n\
-        devs = [{{ port = {port}, irq = 40 }}]\n"
-    )?)
-}
+pub(crate) type Vm = &'static str;
+
+/// A VM with one core.
+pub(crate) static ONE_CORE: Vm = "[[vm]]
+name = \"a\"
+image = \"a.bin\"
+cores = [0]
+load = 0x100000
+entry = 0x100000
+room = 0x8000
+regions = [{ base = 0x100000, size = 0x10000, access = \"rwx\" }]
+devs = [{ port = 0, irq = 40 }]
+";
+
+/// The same with two.
+pub(crate) static TWO_CORES: Vm = "[[vm]]
+name = \"a\"
+image = \"a.bin\"
+cores = [0, 1]
+load = 0x100000
+entry = 0x100000
+room = 0x8000
+regions = [{ base = 0x100000, size = 0x10000, access = \"rwx\" }]
+devs = [{ port = 0, irq = 40 }]
+";
+
+/// Another VM with two cores, beside it.
+pub(crate) static OTHER: Vm = "[[vm]]
+name = \"b\"
+image = \"b.bin\"
+cores = [2, 3]
+load = 0x140000
+entry = 0x140000
+room = 0x8000
+regions = [{ base = 0x140000, size = 0x10000, access = \"rwx\" }]
+devs = [{ port = 1, irq = 40 }]
+";
 
 /// Words of an image, and the place of the first, in bytes.
 pub(crate) type Piece = (usize, &'static [u32]);
@@ -65,7 +84,7 @@ pub(crate) fn schedule(alloc: Global, turns: &[Turn]) -> Result<String, Fail> {
     Ok(lines)
 }
 
-/// What a run of these VMs with the images of a and b leaves: its status, and behind that the text.
+/// What a run of these VMs with the images of a and b leaves: its status, and after that the text.
 pub(crate) fn told(
     alloc: Global,
     vms: &[Vm],
@@ -74,7 +93,7 @@ pub(crate) fn told(
 ) -> Result<String, Fail> {
     let mut config = String::from_str(alloc, PLATFORM)?;
     for vm in vms {
-        config.push_str(table_of(alloc, *vm)?.as_str())?;
+        config.push_str(vm)?;
     }
     let words = vec![in alloc;
         text(alloc, "run")?,

@@ -43,7 +43,7 @@ fn calls(rt: HostRuntime) -> Result<(), Fail> {
 }
 
 /// The sample with a second core for its VM.
-const TWO_CORES: [Change; 2] = [
+static TWO_CORES: [Change; 2] = [
     ("cores = [16]", "cores = [16, 16]"),
     ("cores = [0]", "cores = [0, 1]"),
 ];
@@ -51,7 +51,7 @@ const TWO_CORES: [Change; 2] = [
 /// The first core turns the second on, at 0x100040 with 7 in X0. That adds 1, and turns itself off by SMC. The first core then
 /// asks for it and turns it on again, twice.
 #[rattlefmt::skip]
-const STARTING: [u32; 20] = [
+static STARTING: [u32; 20] = [
     // movz and movk x0, #0xc4000003; movz x1, #1; movz and movk x2, #0x100040; movz x3, #7; smc #0
     0xd280_0060, 0xf2b8_8000, 0xd280_0021, 0xd2a0_0202, 0xf280_0802, 0xd280_00e3, 0xd400_0003,
     // movz and movk x0, #0xc4000003; smc #0; hvc #0; b .
@@ -161,7 +161,7 @@ static FIRST_OF_TWO: [(&str, &[u32], &str); 5] = [
 ];
 
 /// What the second VM shows of its core after a step of `SEVEN`.
-const SECOND: &str = "vm b\ncore 0 on\npc 0000000000140004\npstate 000003c5\nx0 0000000000000007\n";
+static SECOND: &str = "vm b\ncore 0 on\npc 0000000000140004\npstate 000003c5\nx0 0000000000000007\n";
 
 fn cores_of_two(alloc: Global, words: &[u32]) -> Result<String, Fail> {
     let config = two_vms(alloc)?;

@@ -260,28 +260,25 @@ fn a_sink_that_fails(rt: HostRuntime) -> Result<(), Fail> {
     check_put(&rt, rt.alloc(), put, 0, &taken)
 }
 
-/// A configuration, the calls of the shelf and the puts of the sink that fail, and the answer.
+/// Changes of the sample, the calls of the shelf and the puts of the sink that fail, and the answer.
 #[rattlefmt::skip]
-static FAILING: [(&str, &[u32], &[u32], &str); 4] = [
-    (ONE_VM, &[1], &[],  "status 3 entered 0 calls 1 faults 1\nread fault config\n"),
-    (ONE_VM, &[1], &[1], "status 3 entered 0 calls 1 faults 1\n"),
+static FAILING: [(&[Change], &[u32], &[u32], &str); 4] = [
+    (&[], &[1], &[],  "status 3 entered 0 calls 1 faults 1\nread fault config\n"),
+    (&[], &[1], &[1], "status 3 entered 0 calls 1 faults 1\n"),
     // A second call isn't made.
-    (ONE_VM, &[2], &[1], "status 9 entered 0 calls 1 faults 0\n"),
-    ("",     &[2], &[1], "status 6 entered 0 calls 1 faults 0\n"),
+    (&[], &[2], &[1], "status 9 entered 0 calls 1 faults 0\n"),
+    (&[("version = 1\n", "")], &[2], &[1], "status 6 entered 0 calls 1 faults 0\n"),
 ];
 
 fn check_failing(
     rt: &impl Abort,
     alloc: Global,
-    row: &(&str, &[u32], &[u32], &str),
+    row: &(&[Change], &[u32], &[u32], &str),
 ) -> Result<(), Fail> {
-    let (config, calls, puts, wanted) = *row;
-    check(
-        rt,
-        wanted,
-        &told_of(alloc, config.as_bytes(), calls, puts)?,
-        wanted,
-    );
+    let (changes, calls, puts, wanted) = *row;
+    let config = changed(alloc, ONE_VM, changes)?;
+    let told = told_of(alloc, config.as_bytes(), calls, puts)?;
+    check(rt, wanted, &told, wanted);
     Ok(())
 }
 

@@ -8,7 +8,7 @@ use std::alloc::Global;
 use std::process::Abort;
 use std::test::Fail;
 
-/// The port line of the sample, and the one byte range that it names.
+/// The port line of the sample.
 const PORTS: &str = "ports = [{ id = 0, base = 0x9c090000, spi = 32 }]";
 
 /// The sample's port as another of the standard list: the first scratch port, or the first ticker.
@@ -49,8 +49,8 @@ const GUARDED: &[Change] = &[(
     "devs = [{ port = 0, irq = 40 }]\nguards = [{ base = 0x9c090000, size = 0x40 }]\n",
 )];
 
-/// What a row shows, changes of the sample, the words of its guest, the schedule, and two lines of its report.
-type Guest = (
+/// What a row shows, changes of the sample, the words of its guest, the schedule, and two parts of its report.
+pub(crate) type Guest = (
     &'static str,
     &'static [Change],
     &'static [u32],
@@ -85,7 +85,7 @@ static GUESTS: [Guest; 22] = [
     ("a wide store from memory into a port",     BEHIND_MEMORY,  &[0xd29f_ff81, 0xf2a0_03e1, 0xf900_0021],                                 "s 0 0\ns 0 0\ns 0 0\n",                             ["esr_el1 0000000096000061\nfar_el1 00000000001ffffc", "m 0000000000100000 81ff9fd2e103a0f2210000f900000000\nend a"]),
 ];
 
-fn check_guest(rt: &impl Abort, alloc: Global, guest: &Guest) -> Result<(), Fail> {
+pub(crate) fn check_guest(rt: &impl Abort, alloc: Global, guest: &Guest) -> Result<(), Fail> {
     let (shows, changes, words, schedule, [one, other]) = *guest;
     let config = changed(alloc, ONE_VM, changes)?;
     let image = image_of(alloc, words)?;
@@ -115,7 +115,7 @@ static TALKING: [[u32; 6]; 2] = [
     [0xd2b3_8141, 0xd280_0de0, 0x3900_0020, 0xd280_0d60, 0x3900_0020, 0x1400_0000],
 ];
 
-const TALKED: &str = "status 0 entered 12 calls 4 faults 0
+static TALKED: &str = "status 0 entered 12 calls 4 faults 0
 vm a
 core 0 on
 pc 0000000000100014
@@ -182,11 +182,8 @@ fn inputs_reach_their_vm(rt: HostRuntime) -> Result<(), Fail> {
 fn a_million_inputs(rt: HostRuntime) -> Result<(), Fail> {
     let alloc = rt.alloc();
     let image = image_of(alloc, &FOREVER)?;
-    let mut schedule = Vec::new(alloc);
-    for _ in 0..1_000_000 {
-        schedule.extend_from_slice(b"i 0 65\n")?;
-    }
-    let mut shelf = shelf_of(alloc, ONE_VM.as_bytes(), &image, &schedule, &[])?;
+    let schedule = "i 0 65\n".repeat(alloc, 1_000_000)?;
+    let mut shelf = shelf_of(alloc, ONE_VM.as_bytes(), &image, schedule.as_bytes(), &[])?;
     let wanted = "status 0 entered 0 calls 3 faults 0
 vm a
 core 0 on
@@ -266,7 +263,7 @@ fn a_workload_twice(rt: HostRuntime) -> Result<(), Fail> {
 }
 
 /// What makes the sample that of examples/echo, whose VM has a console and a scratch port side by side.
-const ECHO_PORTS: &[Change] = &[
+static ECHO_PORTS: &[Change] = &[
     (
         PORTS,
         "ports = [{ id = 0, base = 0x9c090000, spi = 32 }, { id = 8, base = 0x9c090040, spi = 33 }]",
@@ -285,7 +282,7 @@ const ECHO_PORTS: &[Change] = &[
 /// The image of examples/echo, which answers each line with its capitals, counts lines in the scratch port, and ends at an
 /// empty one with their number in X0.
 #[rattlefmt::skip]
-const ECHO: [u32; 62] = [
+static ECHO: [u32; 62] = [
     0xd2a0_0200, 0xf288_0000, 0x9100_001f, 0x9400_0005, 0x1400_0000, 0x0000_0000,
     0x0000_0000, 0x0000_0000, 0x5280_0002, 0xd2b3_8121, 0xb940_0420, 0x3607_ffe0,
     0xb940_0026, 0x1200_1cc6, 0x7100_28df, 0x5400_0100, 0x7101_405f, 0x54ff_ff20,
@@ -299,17 +296,23 @@ const ECHO: [u32; 62] = [
     0xb940_0000, 0xd65f_03c0,
 ];
 
+/// A schedule with each of these bytes for the console, and a hundred steps after it.
+fn typed(alloc: Global, bytes: &[u8]) -> Result<Vec<u8>, Fail> {
+    let mut schedule = Vec::new(alloc);
+    for byte in bytes {
+        let input = format!(in alloc; "i 0 {byte}\n")?;
+        schedule.extend_from_slice(input.as_bytes())?;
+        schedule.extend_from_slice(&steps(alloc, 100)?)?;
+    }
+    Ok(schedule)
+}
+
 #[test]
 fn lines_are_answered(rt: HostRuntime) -> Result<(), Fail> {
     let alloc = rt.alloc();
     let config = changed(alloc, ONE_VM, ECHO_PORTS)?;
     let image = image_of(alloc, &ECHO)?;
-    let mut schedule = Vec::new(alloc);
-    for byte in b"hello\nworld 42\n\n" {
-        let input = format!(in alloc; "i 0 {byte}\n")?;
-        schedule.extend_from_slice(input.as_bytes())?;
-        schedule.extend_from_slice(&steps(alloc, 100)?)?;
-    }
+    let schedule = typed(alloc, b"hello\nworld 42\n\n")?;
     let mut shelf = shelf_of(alloc, config.as_bytes(), &image, &schedule, &[])?;
     let told = told(alloc, &RUN, &mut shelf, &[])?;
     let found = (

@@ -6,7 +6,7 @@ use std::process::Abort;
 use std::test::Fail;
 
 /// The configuration of examples/second.
-const CONFIG: &str = "version = 1
+static CONFIG: &str = "version = 1
 [platform]
 banks = [{ base = 0x40000000, size = 0x100000 }, { base = 0x80000000, size = 0x400000 }]
 cores = [8, 12]
@@ -34,7 +34,7 @@ guards = [{ base = 0x80034000, size = 0x40 }]
 
 /// Its image: eight numbers, and a program that adds them.
 #[rattlefmt::skip]
-const SUM: [u32; 28] = [
+static SUM: [u32; 28] = [
     0x0000_0001, 0x0000_0000, 0x0000_0002, 0x0000_0000, 0x0000_0004, 0x0000_0000,
     0x0000_0008, 0x0000_0000, 0x0000_0010, 0x0000_0000, 0x0000_0020, 0x0000_0000,
     0x0000_0040, 0x0000_0000, 0x0000_0000, 0x0000_0001, 0xd2b0_0061, 0x9140_2022,
@@ -43,7 +43,7 @@ const SUM: [u32; 28] = [
 ];
 
 /// What it leaves after 50 steps.
-const REPORT: &str = "status 0 entered 50 calls 3 faults 0
+static REPORT: &str = "status 0 entered 50 calls 3 faults 0
 vm sum-2
 core 0 on
 pc 000000008001006c
@@ -87,7 +87,7 @@ fn the_second_example(rt: HostRuntime) -> Result<(), Fail> {
 }
 
 /// The configuration of examples/pair.
-const PAIR: &str = "version = 1
+static PAIR: &str = "version = 1
 [platform]
 banks = [{ base = 0x0, size = 0x200000 }]
 cores = [16, 16]
@@ -125,21 +125,21 @@ ipcs = [{ shmem = 0, access = \"rw\", irqs = [50] }]
 
 /// Puts a message into the window, and a flag behind it.
 #[rattlefmt::skip]
-const SENDER: [u32; 12] = [
+static SENDER: [u32; 12] = [
     0xd2a0_0301, 0x1000_0122, 0xd280_0003, 0x3863_6840, 0x3823_6820, 0x9100_0463,
     0x35ff_ffa0, 0x5280_0020, 0x3901_0020, 0x1400_0000, 0x6c6c_6568, 0x0000_006f,
 ];
 
 /// Waits for the flag, adds the bytes of the message, overwrites the flag, and stores into the sender's memory.
 #[rattlefmt::skip]
-const RECEIVER: [u32; 14] = [
+static RECEIVER: [u32; 14] = [
     0xd2a0_0301, 0x3941_0020, 0x34ff_ffe0, 0xd280_0003, 0xd280_0004, 0x3863_6820,
     0x8b00_0084, 0x9100_0463, 0x35ff_ffa0, 0x5280_1dc0, 0x3901_0020, 0xd2a0_0205,
     0x3900_00a0, 0x1400_0000,
 ];
 
 /// What they leave after 100 steps each, in turn.
-const PAIR_REPORT: &str = "status 0 entered 161 calls 4 faults 0
+static PAIR_REPORT: &str = "status 0 entered 161 calls 4 faults 0
 vm sender
 core 0 on
 pc 0000000000100024
@@ -182,11 +182,8 @@ fn the_example_of_a_pair(rt: HostRuntime) -> Result<(), Fail> {
     let receiver = image_of(alloc, &RECEIVER)?;
     let images = [sender.as_slice(), receiver.as_slice()];
     let names = ["sender.bin", "receiver.bin"];
-    let mut schedule = Vec::new(alloc);
-    for _ in 0..100 {
-        schedule.extend_from_slice(b"s 0 0\ns 1 0\n")?;
-    }
-    let mut shelf = shelf_of_two(alloc, PAIR.as_bytes(), names, images, &schedule)?;
+    let schedule = "s 0 0\ns 1 0\n".repeat(alloc, 100)?;
+    let mut shelf = shelf_of_two(alloc, PAIR.as_bytes(), names, images, schedule.as_bytes())?;
     let told = told(alloc, &RUN, &mut shelf, &[])?;
     check(&rt, "the example of a pair", &told, PAIR_REPORT);
     Ok(())
@@ -204,7 +201,7 @@ static MAIL: [Change; 6] = [
 
 /// Sends four words, prints the answers, and turns its VM off.
 #[rattlefmt::skip]
-const CLIENT: [u32; 98] = [
+static CLIENT: [u32; 98] = [
     0xd2a0_0220, 0xf280_0000, 0x9100_001f, 0x9400_0005, 0x1400_0000, 0x0000_0000,
     0x0000_0000, 0x0000_0000, 0x9000_0004, 0x9104_e084, 0xd280_0027, 0x9101_4088,
     0xd2a0_0306, 0xf2b8_c007, 0xb940_00c5, 0xb940_04c0, 0x4b00_00a0, 0x7100_0c1f,
@@ -226,7 +223,7 @@ const CLIENT: [u32; 98] = [
 
 /// Prints each word, and answers with the word backwards, for which it turns its second core on.
 #[rattlefmt::skip]
-const SERVER: [u32; 139] = [
+static SERVER: [u32; 139] = [
     0xd2a0_02a0, 0xf280_0000, 0x9100_001f, 0x9400_002d, 0x1400_0000, 0x0000_0000,
     0x0000_0000, 0x0000_0000, 0x3940_0001, 0x3400_0381, 0x5280_0004, 0xd503_201f,
     0x1100_0483, 0x2a04_03e2, 0xaa03_03e4, 0x3863_4801, 0x35ff_ff81, 0xb000_0006,
@@ -254,7 +251,7 @@ const SERVER: [u32; 139] = [
 ];
 
 /// What they leave, in the order of the report and without the lines of their images.
-const MAIL_REPORT: [&str; 3] = [
+static MAIL_REPORT: [&str; 3] = [
     "vm client
 core 0 off
 pc 000000000010012c
@@ -336,11 +333,9 @@ fn the_example_of_mail(rt: HostRuntime) -> Result<(), Fail> {
     let server = image_of(alloc, &SERVER)?;
     let images = [client.as_slice(), server.as_slice()];
     let names = ["client.bin", "server.bin"];
-    let mut schedule = Vec::new(alloc);
-    for _ in 0..628 {
-        schedule.extend_from_slice(b"s 0 0\ns 0 0\ns 1 0\ns 1 0\ns 1 0\ns 2 0\ns 2 0\n")?;
-    }
-    let mut shelf = shelf_of_two(alloc, config.as_bytes(), names, images, &schedule)?;
+    let turns = "s 0 0\ns 0 0\ns 1 0\ns 1 0\ns 1 0\ns 2 0\ns 2 0\n";
+    let schedule = turns.repeat(alloc, 628)?;
+    let mut shelf = shelf_of_two(alloc, config.as_bytes(), names, images, schedule.as_bytes())?;
     let told = told(alloc, &RUN, &mut shelf, &[])?;
     for part in MAIL_REPORT.as_slice() {
         assert_eq!(rt;

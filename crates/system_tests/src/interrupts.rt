@@ -1,21 +1,10 @@
 //! Guests at the virtual timer and at the interrupt interface, by the whole program. None of these enables an id, so none is
 //! taken here; the tests of `board_tests` take them. The expected values were worked out by hand.
 
-use crate::runs::{RUN, image_of, shelf_of, told};
-use crate::samples::{Change, ONE_VM, changed};
+use crate::devices::{Guest, check_guest};
+use crate::samples::Change;
 use crate::several::told_of_two;
-use std::alloc::Global;
-use std::process::Abort;
 use std::test::Fail;
-
-/// What a row shows, changes of the sample, the words of its guest, the schedule, and two parts of its report.
-type Guest = (
-    &'static str,
-    &'static [Change],
-    &'static [u32],
-    &'static str,
-    [&'static str; 2],
-);
 
 /// The sample's port as a ticker.
 const TICKER: &[Change] = &[
@@ -82,21 +71,6 @@ static GUESTS: [Guest; 14] = [
         &[0xd280_1fe0, 0xd518_cce0, 0xd538_cce7, 0xd538_cca8], FOUR, ["x7 0000000000000001\nx8 0000000000000007", ""]),
 ];
 
-fn check_guest(rt: &impl Abort, alloc: Global, guest: &Guest) -> Result<(), Fail> {
-    let (shows, changes, words, schedule, [one, other]) = *guest;
-    let config = changed(alloc, ONE_VM, changes)?;
-    let image = image_of(alloc, words)?;
-    let mut shelf = shelf_of(alloc, config.as_bytes(), &image, schedule.as_bytes(), &[])?;
-    let told = told(alloc, &RUN, &mut shelf, &[])?;
-    let found = (
-        told.as_str().starts_with("status 0 "),
-        told.as_str().contains(one),
-        told.as_str().contains(other),
-    );
-    assert_eq!(rt; found, (true, true, true), "{shows}: {told}");
-    Ok(())
-}
-
 #[test]
 fn guests_at_timer_and_interface(rt: HostRuntime) -> Result<(), Fail> {
     for guest in GUESTS.as_slice() {
@@ -106,10 +80,10 @@ fn guests_at_timer_and_interface(rt: HostRuntime) -> Result<(), Fail> {
 }
 
 /// `movz x0, #0x9c0a, lsl #16`, `movz w1, #1`, `str w1, [x0, #8]` and `b .`: the second VM's console is to tell of inputs.
-const TELLING: [u32; 4] = [0xd2b3_8140, 0x5280_0021, 0xb900_0801, 0x1400_0000];
+static TELLING: [u32; 4] = [0xd2b3_8140, 0x5280_0021, 0xb900_0801, 0x1400_0000];
 
 /// `msr daifclr, #2`, then `add x3, x3, #1` for ever
-const OPEN: [u32; 3] = [0xd503_42ff, 0x9100_0463, 0x17ff_ffff];
+static OPEN: [u32; 3] = [0xd503_42ff, 0x9100_0463, 0x17ff_ffff];
 
 /// The line of the second VM's console is nothing to the first, wherever its bytes come.
 static BYTES_OF_ANOTHER: [&str; 3] = [
@@ -118,7 +92,7 @@ static BYTES_OF_ANOTHER: [&str; 3] = [
     "s 1 0\ns 1 0\ns 1 0\ns 0 0\ni 1 65\ns 0 0\ni 1 66\ns 0 0\ns 0 0\ns 1 0\n",
 ];
 
-const FIRST_VM: &str = "vm a
+static FIRST_VM: &str = "vm a
 core 0 on
 pc 0000000000100008
 pstate 00000345

@@ -97,7 +97,7 @@ const CHECKSUM: [u32; 69] = [
 ];
 
 /// Puts 0x108000 into X1 and 0x1122_3344_5566_7788 into X0.
-pub(crate) const PLACE_AND_NUMBER: [u32; 6] = [
+pub(crate) static PLACE_AND_NUMBER: [u32; 6] = [
     0xd290_0001,
     0xf2a0_0201,
     0xd28e_f100,
@@ -156,7 +156,7 @@ fn loads_and_stores(rt: HostRuntime) -> Result<(), Fail> {
 }
 
 /// Puts the address of the distributor into X1, and of a register of the redistributor's second frame into X4.
-const FRAMES: [u32; 2] = [0xd2b5_e001, 0xd2b5_e224];
+static FRAMES: [u32; 2] = [0xd2b5_e001, 0xd2b5_e224];
 
 /// Behind `FRAMES`, with the steps beyond it.
 #[rattlefmt::skip]

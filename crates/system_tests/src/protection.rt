@@ -72,7 +72,7 @@ static MISALIGNED: [Program; 11] = [
 /// A region from 0x104000 to 0x104fff, whose base register the word in front sets the low half of, for X1; then M and BR of
 /// SCTLR_EL1, and 0x104000 in X5.
 #[rattlefmt::skip]
-const REGION: [u32; 10] = [
+static REGION: [u32; 10] = [
     0xf2a0_0201, 0xd289_f822, 0xf2a0_0202, 0xd518_6801, 0xd518_6822, // movk x1, movz x2, movk x2, msr prbar, msr prlar
     0xd280_0024, 0xf2a0_0044, 0xd518_1004, 0xd288_0005, 0xf2a0_0205, // movz x4, movk x4, msr sctlr, movz x5, movk x5
 ];
@@ -102,7 +102,7 @@ static AT_EL1: [Access; 13] = [
 
 /// Two regions over 0x104000, M and BR, and a load from there; the second region is set by the word behind `TWICE`.
 #[rattlefmt::skip]
-const TWICE: [u32; 9] = [
+static TWICE: [u32; 9] = [
     0xd288_0081, 0xf2a0_0201, 0xd289_f822, 0xf2a0_0202, 0xd518_6801, 0xd518_6822, 0xd280_0023, 0xd518_6223, 0xd518_6801,
 ];
 
@@ -153,7 +153,7 @@ static BOTH_STAGES: [Program; 4] = [
 
 /// Behind the words of X1 and [`REGION`] but the last two: a region over the program with AP 11, and at EL0 an access to X5.
 #[rattlefmt::skip]
-const TO_EL0: [u32; 11] = [
+static TO_EL0: [u32; 11] = [
     0xd280_0023, 0xd518_6223, 0xd280_0186, 0xf2a0_0206, 0xd281_f827, 0xf2a0_0207, 0xd518_6806, 0xd518_6827, // region 1
     0x1000_0068, 0xd518_4028, 0xd69f_03e0, // adr x8, msr elr_el1, eret
 ];

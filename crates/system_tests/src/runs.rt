@@ -34,13 +34,9 @@ pub(crate) fn image_of(alloc: Global, words: &[u32]) -> Result<Vec<u8>, Fail> {
     Ok(bytes)
 }
 
-/// A schedule of so many steps.
+/// A schedule of this number of steps.
 pub(crate) fn steps(alloc: Global, count: usize) -> Result<Vec<u8>, Fail> {
-    let mut schedule = Vec::new(alloc);
-    for _ in 0..count {
-        schedule.extend_from_slice(b"s 0 0\n")?;
-    }
-    Ok(schedule)
+    Ok("s 0 0\n".repeat(alloc, count)?.into_bytes())
 }
 
 /// A shelf with a configuration, an image and a schedule, whose calls of these numbers, from 1, fail.

@@ -148,7 +148,7 @@ static OTHERS: [(&str, &[u32], &str); 5] = [
 ];
 
 /// What the first VM shows after three steps of `FIVE`.
-const SECTION: &str = "vm a
+static SECTION: &str = "vm a
 core 0 on
 pc 0000000000100004
 pstate 000003c5
@@ -169,7 +169,7 @@ fn a_vm_shows_the_same_beside_others(rt: HostRuntime) -> Result<(), Fail> {
 
 /// `movz` and three `movk` make X0 0x1122334455667788, `movz` and `movk` make X1 0x180ffc, and `str x0, [x1]`.
 #[rattlefmt::skip]
-const STORING: [u32; 7] = [
+static STORING: [u32; 7] = [
     0xd28e_f100, 0xf2aa_acc0, 0xf2c6_6880, 0xf2e2_2440, 0xd2a0_0301, 0xf281_ff81, 0xf900_0020,
 ];
 
@@ -304,10 +304,7 @@ fn second_core(told: &str) -> &str {
 #[test]
 fn a_hostile_vm(rt: HostRuntime) -> Result<(), Fail> {
     let alloc = rt.alloc();
-    let mut schedule = String::new(alloc);
-    for _ in 0..14 {
-        schedule.push_str("s 0 0\ns 1 0\n")?;
-    }
+    let schedule = "s 0 0\ns 1 0\n".repeat(alloc, 14)?;
     for (shows, image, parked) in HOSTILE.as_slice() {
         let told = told_of_two(alloc, &[], [&FIVE, image], &schedule)?;
         let line = second_core(&told);
@@ -320,7 +317,7 @@ fn a_hostile_vm(rt: HostRuntime) -> Result<(), Fail> {
 }
 
 /// The head of a configuration with eight cores and eight ports.
-const EIGHT: &str = "version = 1
+static EIGHT: &str = "version = 1
 [platform]
 banks = [{ base = 0x0, size = 0x200000 }]
 cores = [3, 3, 3, 3, 3, 3, 3, 3]
@@ -337,35 +334,35 @@ base = 0x0
 size = 0x10000
 ";
 
-/// The table of the VM of this number, which has the core and the port of the number and a megabyte's sixteenth.
-fn vm_table(alloc: Global, v: u32) -> Result<String, Fail> {
-    Ok(format!(in alloc;
-        "[[vm]]
-name = \"vm{v}\"
-image = \"vm{v}.bin\"
-load = 0x1{v}0000
+/// The table of the VM whose number stands for `#`, which has the core and the port of the number and a megabyte's sixteenth.
+static VM_TABLE: &str = "[[vm]]
+name = \"vm#\"
+image = \"vm#.bin\"
+load = 0x1#0000
 room = 0x1000
-entry = 0x1{v}0000
-cores = [{v}]
-regions = [{{ base = 0x1{v}0000, size = 0x10000, access = \"rwx\" }}]
-devs = [{{ port = {v}, irq = 40 }}]
-"
-    )?)
-}
+entry = 0x1#0000
+cores = [#]
+regions = [{ base = 0x1#0000, size = 0x10000, access = \"rwx\" }]
+devs = [{ port = #, irq = 40 }]
+";
 
 /// What it shows after a step of `FIVE`.
-fn vm_section(alloc: Global, v: u32) -> Result<String, Fail> {
-    Ok(format!(in alloc;
-        "vm vm{v}
+static VM_SECTION: &str = "vm vm#
 core 0 on
-pc 00000000001{v}0004
+pc 00000000001#0004
 pstate 000003c5
 x0 0000000000000005
-console {v}=
-m 00000000001{v}0000 a00080d2000000140000000000000000
-end vm{v}
-"
-    )?)
+console #=
+m 00000000001#0000 a00080d2000000140000000000000000
+end vm#
+";
+
+/// The numbers of the VMs, each a digit.
+static DIGITS: [&str; 8] = ["0", "1", "2", "3", "4", "5", "6", "7"];
+
+/// A text with the number of a VM in the place of each `#`.
+fn numbered(alloc: Global, text: &str, digit: &str) -> Result<String, Fail> {
+    Ok(text.replace(alloc, "#", digit)?)
 }
 
 /// A shelf with a configuration of eight VMs, of which each has an image of these words, and a schedule.
@@ -409,52 +406,53 @@ fn eight_vms(rt: HostRuntime) -> Result<(), Fail> {
     let mut config = String::from_str(alloc, EIGHT)?;
     let mut wanted = String::from_str(alloc, "status 0 entered 8 calls 10 faults 0\n")?;
     let mut schedule = String::new(alloc);
-    for v in 0..8u32 {
-        config.push_str(&vm_table(alloc, v)?)?;
-        wanted.push_str(&vm_section(alloc, v)?)?;
-        schedule.push_str(&format!(in alloc; "s {v} 0\n")?)?;
+    for digit in DIGITS.as_slice() {
+        config.push_str(&numbered(alloc, VM_TABLE, digit)?)?;
+        wanted.push_str(&numbered(alloc, VM_SECTION, digit)?)?;
+        schedule.push_str(&numbered(alloc, "s # 0\n", digit)?)?;
     }
     wanted.push_str("done\n")?;
     let mut shelf = shelf_of_eight(alloc, &config, &FIVE, &schedule)?;
-    check(
-        &rt,
-        "eight VMs",
-        &told(alloc, &RUN, &mut shelf, &[])?,
-        &wanted,
-    );
+    let told = told(alloc, &RUN, &mut shelf, &[])?;
+    check(&rt, "eight VMs", &told, &wanted);
     Ok(())
 }
 
 /// One shared memory for all eight VMs, whose cores have an entry more for it.
-const SHARED_BY_ALL: Change = (
+static SHARED_BY_ALL: Change = (
     "cores = [3, 3, 3, 3, 3, 3, 3, 3]\n",
     "cores = [4, 4, 4, 4, 4, 4, 4, 4]\n",
 );
 
-const MEMORY: &str = "[[shmem]]\nbase = 0x190000\nsize = 0x1000\nevents = 1\n";
+static MEMORY: &str = "[[shmem]]\nbase = 0x190000\nsize = 0x1000\nevents = 1\n";
 
-const WINDOW: &str = "ipcs = [{ shmem = 0, access = \"rw\", irqs = [50] }]\n";
+static WINDOW: &str = "ipcs = [{ shmem = 0, access = \"rw\", irqs = [50] }]\n";
 
 /// `movz` and `movk x0, #0xc6000001`, `hvc #0`, `movz x1, #0x19, lsl #16`, `movz w0, #7` and `strb w0, [x1]`: it rings the event
 /// and stores to the window.
 #[rattlefmt::skip]
-const RINGING: [u32; 6] = [0xd280_0020, 0xf2b8_c000, 0xd400_0002, 0xd2a0_0321, 0x5280_00e0, 0x3900_0020];
+static RINGING: [u32; 6] = [0xd280_0020, 0xf2b8_c000, 0xd400_0002, 0xd2a0_0321, 0x5280_00e0, 0x3900_0020];
 
-/// What a VM of this number shows after the first has rung and stored.
-fn sharing_section(alloc: Global, v: u32) -> Result<String, Fail> {
-    let first = "pc 0000000000100018\npstate 000003c5\nx0 0000000000000007\nx1 0000000000190000\n";
-    let waiting = format!(in alloc; "pc 00000000001{v}0000\npstate 000003c5\n")?;
-    let registers = if v == 0 { first } else { &waiting };
-    Ok(format!(in alloc;
-        "vm vm{v}
+/// What a VM shows after the first has rung and stored, with its registers in the place of `@`.
+static SHARING: &str = "vm vm#
 core 0 on
-{registers}console {v}=
-m 00000000001{v}0000 200080d200c0b8f2020000d42103a0d2
-m 00000000001{v}0010 e0008052200000390000000000000000
+@console #=
+m 00000000001#0000 200080d200c0b8f2020000d42103a0d2
+m 00000000001#0010 e0008052200000390000000000000000
 m 0000000000190000 07000000000000000000000000000000
-end vm{v}
-"
-    )?)
+end vm#
+";
+
+/// The registers of the first.
+static RANG: &str = "pc 0000000000100018\npstate 000003c5\nx0 0000000000000007\nx1 0000000000190000\n";
+
+/// Those of each other.
+static WAITS: &str = "pc 00000000001#0000\npstate 000003c5\n";
+
+fn sharing_section(alloc: Global, digit: &str) -> Result<String, Fail> {
+    let registers = if digit == "0" { RANG } else { WAITS };
+    let section = SHARING.replace(alloc, "@", registers)?;
+    numbered(alloc, &section, digit)
 }
 
 #[test]
@@ -463,19 +461,15 @@ fn eight_vms_on_one_memory(rt: HostRuntime) -> Result<(), Fail> {
     let mut config = changed(alloc, EIGHT, &[SHARED_BY_ALL])?;
     config.push_str(MEMORY)?;
     let mut wanted = String::from_str(alloc, "status 0 entered 6 calls 10 faults 0\n")?;
-    for v in 0..8u32 {
-        config.push_str(&vm_table(alloc, v)?)?;
+    for digit in DIGITS.as_slice() {
+        config.push_str(&numbered(alloc, VM_TABLE, digit)?)?;
         config.push_str(WINDOW)?;
-        wanted.push_str(&sharing_section(alloc, v)?)?;
+        wanted.push_str(&sharing_section(alloc, digit)?)?;
     }
     wanted.push_str("done\n")?;
     let schedule = "s 0 0\ns 0 0\ns 0 0\ns 0 0\ns 0 0\ns 0 0\n";
     let mut shelf = shelf_of_eight(alloc, &config, &RINGING, schedule)?;
-    check(
-        &rt,
-        "eight VMs on one memory",
-        &told(alloc, &RUN, &mut shelf, &[])?,
-        &wanted,
-    );
+    let told = told(alloc, &RUN, &mut shelf, &[])?;
+    check(&rt, "eight VMs on one memory", &told, &wanted);
     Ok(())
 }

@@ -16,7 +16,7 @@ fn run(alloc: Global, image: &[u8], count: usize) -> Result<String, Fail> {
 /// A word of zeros is undefined, and its exception goes to the vectors at 0.
 #[test]
 fn undefined_word(rt: HostRuntime) -> Result<(), Fail> {
-    const WANTED: &str = "status 0 entered 1 calls 3 faults 0
+    static WANTED: &str = "status 0 entered 1 calls 3 faults 0
 vm a
 core 0 on
 pc 0000000000000200
@@ -35,7 +35,7 @@ done
 }
 
 /// `adr x2` of the vectors at 0x100800, `msr vbar_el1, x2` and `msr spsr_el1, x0`.
-const BEFORE: [u32; 3] = [0x1000_3FC2, 0xD518_C002, 0xD518_4000];
+static BEFORE: [u32; 3] = [0x1000_3FC2, 0xD518_C002, 0xD518_4000];
 
 /// `adr x1` of the word behind the return.
 const TO_THE_WORD: u32 = 0x1000_0061;
@@ -44,7 +44,7 @@ const TO_THE_WORD: u32 = 0x1000_0061;
 const BEHIND_THE_WORD: u32 = 0x5000_0061;
 
 /// `msr elr_el1, x1` and `eret`; the next word is at 0x100020.
-const RETURN: [u32; 2] = [0xD518_4021, 0xD69F_03E0];
+static RETURN: [u32; 2] = [0xD518_4021, 0xD69F_03E0];
 
 /// Where an exception comes from: `movz x0` of the masks A and F and of the mode, that number, and the vector.
 type Origin = (&'static str, u32, u32, u64);
@@ -189,17 +189,17 @@ fn check_return(rt: &impl Abort, alloc: Global, row: &Returns) -> Result<(), Fai
 /// `adr x9, 0x100800`, `msr vbar_el1, x9`, `adr x9, 0x101000`, `msr sp_el0, x9`, `adr x9, 0x100020`, `msr elr_el1, x9`,
 /// `msr spsr_el1, xzr` and `eret`; then `mov x0, #6`, `mov x1, #7`, `svc #1`, `str x0, [sp, #-16]!` and `b .`.
 #[rattlefmt::skip]
-const CALLER: [u32; 13] = [
+static CALLER: [u32; 13] = [
     0x1000_4009, 0xD518_C009, 0x1000_7FC9, 0xD518_4109, 0x1000_0089, 0xD518_4029, 0xD518_401F, 0xD69F_03E0,
     0xD280_00C0, 0xD280_00E1, 0xD400_0021, 0xF81F_0FE0, 0x1400_0000,
 ];
 
 /// `mul x0, x0, x1`, `mrs x3, esr_el1`, `mrs x4, currentel` and `eret`, at the vector of exceptions from EL0.
-const HANDLER: [u32; 4] = [0x9B01_7C00, 0xD538_5203, 0xD538_4244, 0xD69F_03E0];
+static HANDLER: [u32; 4] = [0x9B01_7C00, 0xD538_5203, 0xD538_4244, 0xD69F_03E0];
 
 #[test]
 fn call_from_el0(rt: HostRuntime) -> Result<(), Fail> {
-    const WANTED: &str = "status 0 entered 20 calls 3 faults 0
+    static WANTED: &str = "status 0 entered 20 calls 3 faults 0
 vm a
 core 0 on
 pc 0000000000100030
