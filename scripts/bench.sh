@@ -64,7 +64,7 @@ now() {
     echo "${EPOCHREALTIME/[.,]/}"
 }
 
-# Runs so many steps below the command of the other words. What the program wrote is in out, and its time in took.
+# Runs this many steps below the command of the other words. What the program wrote is in out, and its time in took.
 run() {
     local steps="$1" begin
     shift
@@ -75,7 +75,7 @@ run() {
     [[ $(tail -n 1 out) == "done" ]] || give_up 1 "a run of $steps steps put out no whole report"
 }
 
-# The peak memory, in KiB, of a run of few steps where a VM uses so many bytes of a bank of so many.
+# The peak memory, in KiB, of a run of few steps where a VM uses this many bytes of a bank of this many.
 peak_of() {
     local used="$1" bank="$2" made="config-$1-$2.toml"
     sed -e "s/size = 0x200000 }/size = $bank }/" -e "s/size = 0x10000, access/size = $used, access/" config.toml >"$made"
@@ -203,7 +203,7 @@ devs = [{ port = $v, irq = 40 }]"
     done
 }
 
-# Measures eight VMs over so many steps, and prints how many a second has.
+# Measures eight VMs over this many steps, and prints how many a second has.
 measure_eight() {
     local steps="$1"
     "$top/scripts/schedule.py" "$steps" --cores 8 >eight.txt || give_up 2 "scripts/schedule.py made no schedule"
@@ -238,7 +238,7 @@ fi
 run "$many" /usr/bin/time -f %M -o memory
 peak="$(cat memory)"
 
-# How often a run of so many steps takes memory.
+# How often a run of this many steps takes memory.
 allocations() {
     run "$1" valgrind --leak-check=no --log-file=said
     sed -n 's/.*total heap usage: \([0-9,]*\) allocs.*/\1/p' said | tr -d ,

@@ -10,7 +10,7 @@ difference, and then the status is 1.
 A guest sets all registers and the flags, and then come cases: each is one word of a row of the A64 base integer set
 with random fields, edge values favoured, and the words before it that make its registers fit. After each case both
 reports must be the same, byte by byte. Words that are undefined or unpredictable aren't drawn, nor YIELD and WFE, over
-which qemu goes two words in one step. Loads and stores go to the end of the image, where random bytes lie, and behind
+which qemu goes two words in one step. Loads and stores go to the end of the image, where random bytes lie, and after
 it. Branches lead over some words, or back to them.
 """
 
@@ -49,7 +49,7 @@ LINK = 30
 
 
 def number(r, width):
-    """A number of so many bits."""
+    """A number of this many bits."""
     top = 1 << width
     return r.choice((0, 1, top // 2 - 1, top // 2, top - 1)) if r.random() < 0.4 else r.randrange(top)
 
@@ -177,7 +177,7 @@ def plain(r, here):
 
 
 def place(r, width):
-    """Where so many bytes lie that may be read and written."""
+    """Where this many bytes lie that may be read and written."""
     near = r.randrange(LIMIT - FILLED, LIMIT + FILLED)
     return r.choice((near, near, near, r.randrange(LIMIT, FAR), END - width))
 
@@ -243,7 +243,7 @@ def jump(place, target):
 
 
 def branch(r, here):
-    """A branch over some words, or back to words that end in a jump behind it."""
+    """A branch over some words, or back to words that end in a jump after it."""
     row = r.choice(BRANCHES)
     fields = row.draw(r)
     before = []
@@ -270,7 +270,7 @@ def branch(r, here):
 
 
 def guest(r):
-    """An image, and where its cases begin, with its end behind them."""
+    """An image, and where its cases begin, with its end after them."""
     words = []
     for target in range(31):
         words += moves(target, value(r))
@@ -286,7 +286,7 @@ def guest(r):
 
 
 def report_of(room, steps):
-    """What the proved program prints after so many steps."""
+    """What the proved program prints after this many steps."""
     with open(os.path.join(room, "schedule.txt"), "w") as target:
         target.write("s 0 0\n" * steps)
     command = [BAO, "run", "config.toml", "schedule.txt"]
@@ -337,7 +337,7 @@ def compare(image, starts, room):
             if ours != theirs:
                 before = "\n".join(line for line in earlier.split("\n") if not is_code(line))
                 words = listing(image, begin, core[by_qemu.PC], room)
-                return steps, f"step {steps}, behind\n{before}\n{words}\n{both_reports(theirs, ours)}"
+                return steps, f"step {steps}, after\n{before}\n{words}\n{both_reports(theirs, ours)}"
     return steps, None
 
 

@@ -91,7 +91,7 @@ def step(debugger, before):
 
 
 def run(debugger, steps):
-    """The core and the memory after so many steps from the machine's start."""
+    """The core and the memory after this many steps from the machine's start."""
     core = start(debugger)
     for number in range(steps):
         before, core = core, step(debugger, core)

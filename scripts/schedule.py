@@ -7,8 +7,8 @@
   schedule.py 1000 --cores 2 --random 7     each step of a core drawn at random, by the seed 7; by weights where they are given
   schedule.py 1000 --cores 2 --start 1=500  core 1 takes no step before the 500 first steps
   schedule.py 1000 --text 0='hello'         the bytes of a text into port 0, spread over the steps
-  schedule.py 1000 --at 500=0='hello'       the same, but all at once behind the first 500 steps
-  schedule.py 1000 --every 12=50            a byte 0 into port 12 behind each 50 steps
+  schedule.py 1000 --at 500=0='hello'       the same, but all at once after the first 500 steps
+  schedule.py 1000 --every 12=50            a byte 0 into port 12 after each 50 steps
 
 The count of a step is the number of steps before it, so counts never fall.
 """
@@ -20,7 +20,7 @@ MOST = 1_000_000
 
 
 def pair(text):
-    """`N=REST`, a number and what stands behind it."""
+    """`N=REST`, a number and what stands after it."""
     number, _, rest = text.partition("=")
     if not rest or not number.isdecimal():
         raise argparse.ArgumentTypeError(f"not of the form N=...: {text}")
@@ -77,16 +77,16 @@ def main():
     options.add_argument("--text", type=pair, action="append", default=[], metavar="PORT=TEXT",
                          help="the bytes of a text go into the port")
     options.add_argument("--at", type=text_at, action="append", default=[], metavar="STEP=PORT=TEXT",
-                         help="the bytes of a text go into the port behind so many steps")
+                         help="the bytes of a text go into the port after this many steps")
     options.add_argument("--every", type=pair, action="append", default=[], metavar="PORT=STEPS",
-                         help="a byte 0 goes into the port behind each so many steps")
+                         help="a byte 0 goes into the port each time after this many steps")
     given = options.parse_args()
 
     weights = given.weights or [1] * given.cores
     starts = {core: int(step) for core, step in given.start}
     given.every = [(port, int(period)) for port, period in given.every]
     if any(period == 0 for _, period in given.every):
-        sys.exit("a byte behind each 0 steps")
+        sys.exit("a byte after each 0 steps")
     inputs = inputs_of(given)
     if given.steps + len(inputs) > MOST:
         sys.exit(f"more than {MOST} events")

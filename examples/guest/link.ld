@@ -1,6 +1,6 @@
 /* What every guest in C is linked by. The build line gives the places: `load` where the image is loaded, `room` how many
    bytes it may have, and `memory` how many bytes of memory the VM has from `load` on. Variables without a first value,
-   which begin as zero, stand behind the image's room; the stack goes down from the end of memory. */
+   which begin as zero, stand after the image's room; the stack goes down from the end of memory. */
 ENTRY(start)
 
 memory_end = load + memory;

@@ -1,4 +1,4 @@
-// Puts a message into the window, and a flag behind it that says so.
+// Puts a message into the window, and a flag after it that says so.
     .equ    window, 0x180000
     .equ    flag, 0x40
     .global start

@@ -1,5 +1,5 @@
 // Adds eight numbers that it may only read, and keeps the sum in memory and on the stack. The numbers are the first 64
-// bytes of the image, and the program begins behind them.
+// bytes of the image, and the program begins after them.
     .text
 numbers:
     .quad   1, 2, 4, 8, 16, 32, 64, 0x100000000

@@ -1,4 +1,4 @@
-// A loop of 16 instructions that never ends, over one KiB behind the image's room: half of them loads and stores.
+// A loop of 16 instructions that never ends, over one KiB after the image's room: half of them loads and stores.
     .text
 start:
     mov     x0, #0x8000         // the place: from 0x108000 on, and at 0x108400 back to it

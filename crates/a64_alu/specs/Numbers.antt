@@ -1,4 +1,4 @@
--- Numbers of so many bits, and what bits of them stand for.
+-- Numbers of a width in bits, and what bits of them stand for.
 use Rattle.std.specs.Prelude.{ℕ, ◌-◌, ◌^◌, ℤ, pos, unsigned_abs}
 use Rattle.std.specs.Int.{int_rem_euclid}
 use Rattle.bao_types.specs.Sum.{signed}

@@ -6,7 +6,7 @@ use Rattle.a64_decode.specs.declared.operand.OneSourceKind.{OneSourceKind}
 use Rattle.a64_decode.specs.declared.operand.OneSourceKind.TheVariants.{Rbit, Rev16, Rev32, Rev64, Clz, Cls}
 use Rattle.a64_alu.specs.Numbers.{inverted}
 
--- each element of `size` bits by itself, so many of them, the lowest first
+-- each element of `size` bits by itself, this many of them, the lowest first
 abbrev pub each : (ℕ → ℕ) → ℕ → ℕ → ℕ → ℕ
 each f size zero value = 0
 each f size (suc count) value = f (value % 2 ^ size) + 2 ^ size * each f size count (value / 2 ^ size)

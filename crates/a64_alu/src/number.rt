@@ -1,4 +1,4 @@
-//! Numbers of so many bits, inverted, moved and replaced.
+//! Numbers of a width in bits, inverted, moved and replaced.
 
 ghost use Rattle.std.specs.Prelude.{◌≡◌, ◌≤◌, ◌<◌, ◌+◌, ◌*◌, ◌^◌};
 ghost use Rattle.a64_state.specs.Bits.{with_bits as with_bits_of};

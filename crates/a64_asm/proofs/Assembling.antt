@@ -22,7 +22,7 @@ unfolding assembled
 begins text bytes none =
     record { left = ap (λ b. assembled_from (definitions text) b beginning (lines_of text)) (sym none); lines = omega arith; place = omega arith }
 
--- the first line decides, where something stands behind it
+-- the first line decides, where something stands after it
 pub next_line : (labels : List ℕ → Option Definition) (bytes : List ℕ) (here : Definition) (line : List ℕ) (more : List (List ℕ)) → 0 < length more
     → assembled_from labels bytes here (line ∷ more)
     ≡ unless_broken (Broken (here.line + 1)) (broken_by (judged labels here line))

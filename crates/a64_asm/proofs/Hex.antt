@@ -10,7 +10,7 @@ use Rattle.numerals.specs.Hex.{hex}
 use Rattle.numerals.proofs.Hex.{hex_more}
 use Rattle.a64_asm.specs.Number.{is_hex_digit, hex_digit_value, hex_word_of}
 
--- the digits so far, and one more behind them
+-- the digits so far, and one more after them
 pub hex_push : (old before new : List ℕ) (k number digit : ℕ) → 0 < k → before ≡ old ++ hex (k - 1) (number / 16)
     → digit ≡ digit_glyph false (number % 16) → new ≡ before ++ digit ∷ [] → new ≡ old ++ hex k number
 hex_push old before new k number digit some so_far is pushed =

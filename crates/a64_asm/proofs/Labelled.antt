@@ -58,7 +58,7 @@ pub record IsCollecting (text : List ℕ) (labels : BTreeMap (Bor (List ℕ)) De
 pub begins : (text : List ℕ) (labels : BTreeMap (Bor (List ℕ)) Definition) → IsEmpty labels → IsCollecting text labels beginning text
 begins text labels empty = record { found = λ name. search rules; lines = omega arith; place = omega arith }
 
--- the first line decides, where something stands behind it
+-- the first line decides, where something stands after it
 next_line : (here : Definition) (line : List ℕ) (more : List (List ℕ)) (name : List ℕ) → 0 < length more
     → found_from here (line ∷ more) name ≡ option_or (definition_at here (label_of line) name) (found_from (next_of here line) more name)
 unfolding found_from

@@ -6,7 +6,7 @@ use Rattle.std.proofs.lemmas.List.Splits.{length-slice_split}
 use Rattle.a64_asm.specs.Text.{Cut, Whole, Parts, put_before, cut_of}
 use Rattle.a64_asm.specs.Source.{lines_of}
 
--- the first line, and those behind it
+-- the first line, and those after it
 pub record IsLine (text line others : List ℕ) : Type 0 where
   pub split : lines_of text ≡ line ∷ lines_of others
   pub fewer : length others < length text

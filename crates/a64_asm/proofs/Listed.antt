@@ -183,7 +183,7 @@ by_form word low (Some text) line = read_back text (Instruction (decoded word)) 
 text_back : (word : ℕ) → word < 2 ^ 32 → IsReadBack (text_of word) word
 text_back word low = by_form word low (form_of (decoded word)) (form_line (decoded word) (lawful_words word))
 
--- the lines of words, and the nothing behind them
+-- the lines of words, and the nothing after them
 abbrev parts_of : List ℕ → List (List ℕ)
 parts_of [] = [] ∷ []
 parts_of (word ∷ words) = text_of word ∷ parts_of words

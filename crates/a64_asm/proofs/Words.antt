@@ -13,7 +13,7 @@ listing_more (a ∷ b ∷ []) some = absurd (omega arith)
 listing_more (a ∷ b ∷ c ∷ []) some = absurd (omega arith)
 listing_more (a ∷ b ∷ c ∷ d ∷ rest) some = refl
 
--- behind the last word nothing is left
+-- after the last word nothing is left
 pub listing_none : (rest : List ℕ) → length rest < 4 → listing rest ≡ []
 unfolding listing words_of
 listing_none [] few = refl

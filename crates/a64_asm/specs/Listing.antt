@@ -186,12 +186,12 @@ listing image = flat_map line_of_word (words_of image)
 abbrev pub is_image_length : ℕ → Bool
 is_image_length len = (len % 4 == 0) && nat_le len image_limit
 
--- what a function leaves that writes this text, where there is one, behind what it had
+-- what a function leaves that writes this text, where there is one, after what it had
 abbrev pub Pushes : Option (List ℕ) → List ℕ → List ℕ → Bool → Type 0
 Pushes None old new done = (done ≡ false) × (new ≡ old)
 Pushes (Some text) old new done = (done ≡ true) × (new ≡ old ++ text)
 
--- so many bytes are refused, or memory ran out
+-- this many bytes are refused, or memory ran out
 abbrev pub TellsLength : ℕ → ListError → Type 0
 TellsLength len (BadLength told) = (told ≡ len) × IsFalse (is_image_length len)
 TellsLength len OutOfMemory = IsTrue (is_image_length len)

@@ -60,33 +60,33 @@ unfoldable pub offset_of : List ℕ → Option ℕ
 offset_of text = offset_in (cut_of closing_bracket text)
 
 -- a letter and a number
-abbrev pub number_behind : ℕ → List ℕ → Option ℕ
-number_behind letter [] = None
-number_behind letter (first ∷ digits) = if first == letter then number_of digits else None
+abbrev pub number_after : ℕ → List ℕ → Option ℕ
+number_after letter [] = None
+number_after letter (first ∷ digits) = if first == letter then number_of digits else None
 
 -- a system register's name, `sA_B_cC_cD_E`, cut at its low lines
 abbrev pub numbers_of : Option ℕ → Option ℕ → Option ℕ → Option ℕ → Option ℕ → Option Numbers
 numbers_of (Some a) (Some b) (Some c) (Some d) (Some e) = Some (record { op0 = a; op1 = b; crn = c; crm = d; op2 = e })
 numbers_of _ _ _ _ _ = None
 
--- the last two parts, behind three
+-- the last two parts, after three
 abbrev pub last_numbers : Option ℕ → Option ℕ → List ℕ → Cut → Option Numbers
 last_numbers a b c Whole = None
-last_numbers a b c (Parts d e) = numbers_of a b (number_behind letter_c c) (number_behind letter_c d) (number_of e)
+last_numbers a b c (Parts d e) = numbers_of a b (number_after letter_c c) (number_after letter_c d) (number_of e)
 
--- the last three parts, behind two
+-- the last three parts, after two
 abbrev pub three_numbers : Option ℕ → Option ℕ → Cut → Option Numbers
 three_numbers a b Whole = None
 three_numbers a b (Parts c others) = last_numbers a b c (cut_of low_line others)
 
--- the last four parts, behind the first
+-- the last four parts, after the first
 abbrev pub four_numbers : Option ℕ → Cut → Option Numbers
 four_numbers a Whole = None
 four_numbers a (Parts b others) = three_numbers a (number_of b) (cut_of low_line others)
 
 abbrev pub five_numbers : Cut → Option Numbers
 five_numbers Whole = None
-five_numbers (Parts a others) = four_numbers (number_behind letter_s a) (cut_of low_line others)
+five_numbers (Parts a others) = four_numbers (number_after letter_s a) (cut_of low_line others)
 
 unfoldable pub system_numbers : List ℕ → Option Numbers
 system_numbers text = five_numbers (cut_of low_line text)
@@ -135,7 +135,7 @@ abbrev pub words_in : Distance → ℕ
 words_in distance =
     if distance.back && nat_lt 0 (distance.bytes / 4) then 2 ^ 64 - distance.bytes / 4 else distance.bytes / 4
 
--- whole words, and so many that they fit a signed field of so many bits
+-- whole words, and a number of them that fits a signed field of this many bits
 abbrev pub fits_field : ℕ → Distance → Bool
 fits_field width distance =
     (distance.bytes % 4 == 0)

@@ -37,16 +37,16 @@ is_blank (first ∷ rest) = first == semicolon
 unfoldable pub is_word : List ℕ → Bool
 is_word line = not (is_blank line) && is_none (label_of line)
 
--- a line that is this label, before which so many words stand
+-- a line that is this label, before which this many words stand
 abbrev pub definition_at : Definition → Option (List ℕ) → List ℕ → Option Definition
 definition_at here None name = None
 definition_at here (Some label) name = if bytes_eq label name then Some here else None
 
--- the line behind this one
+-- the line after this one
 abbrev pub next_of : Definition → List ℕ → Definition
 next_of here line = record { line = here.line + 1; place = if is_word line then here.place + 1 else here.place }
 
--- where the lines from here on define a label first; what is behind the last end of a line defines none
+-- where the lines from here on define a label first; what is after the last end of a line defines none
 unfoldable pub found_from : Definition → List (List ℕ) → List ℕ → Option Definition
 found_from here [] name = None
 found_from here (behind ∷ []) name = None
@@ -106,12 +106,12 @@ pub data Assembled : Type 0 where
   Image : (bytes : List ℕ) → Assembled
   Broken : (line rule : ℕ) → Assembled
 
--- what is behind the last end of a line must be nothing, else it is a line of no form
+-- what is after the last end of a line must be nothing, else it is a line of no form
 abbrev pub at_end : List ℕ → Definition → List ℕ → Assembled
 at_end bytes here [] = Image bytes
 at_end bytes here (first ∷ rest) = Broken (here.line + 1) 1
 
--- what the lines from here on give, behind these bytes
+-- what the lines from here on give, after these bytes
 unfoldable pub assembled_from : (List ℕ → Option Definition) → List ℕ → Definition → List (List ℕ) → Assembled
 assembled_from labels bytes here [] = Image bytes
 assembled_from labels bytes here (behind ∷ []) = at_end bytes here behind

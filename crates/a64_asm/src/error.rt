@@ -3,7 +3,7 @@
 /// Why an image isn't listed.
 #[derive(Clone, Copy, Debug, PartialEq, Eq)]
 pub enum ListError {
-    /// So many bytes aren't whole words, or are more than a mebibyte.
+    /// This many bytes aren't whole words, or are more than a mebibyte.
     BadLength { len: u32 },
     OutOfMemory,
 }

@@ -126,7 +126,7 @@ fn stepped(back: bool, bytes: Option<u64>) -> Result<Distance, u8>
     }
 }
 
-/// The offset of a branch in words, where it fits a field of so many bits.
+/// The offset of a branch in words, where it fits a field of this many bits.
 #[tactic(auto, unfolding(crate::specs::Operand::words_to))]
 pub(crate) fn words_to(width: u32, target: Result<Distance, u8>) -> Result<u64, u8>
     requires { width < 32 }
@@ -201,7 +201,7 @@ fn is_word(line: &[u8]) -> bool
 }
 
 impl Definition {
-    /// The place behind this line.
+    /// The place after this line.
     pub(crate) fn next(self, line: &[u8]) -> Definition
         requires line { self.line + 1 < 2 ^ 32 }
         requires place { self.place + 1 < 2 ^ 32 }

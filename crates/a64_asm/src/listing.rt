@@ -378,7 +378,7 @@ pub fn list(alloc: Global, image: &[u8]) -> Result<Vec<u8>, ListError>
     list_words(alloc, image)
 }
 
-/// Whether so many bytes are whole words, and not too many.
+/// Whether this many bytes are whole words, and not too many.
 fn is_image_length(len: usize) -> bool
     ensures { result ≡ is_image_length len }
 {

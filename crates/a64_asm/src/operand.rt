@@ -1,6 +1,6 @@
 //! The operands of a line, each by its text.
 ghost use Rattle.std.specs.Prelude.{◌≡◌, MatchOption};
-ghost use Rattle.a64_asm.specs.Operand.{Fewer, Three, triple_of, is_same, trio_of, base_of, offset_of, number_behind, numbers_of, three_numbers, system_numbers};
+ghost use Rattle.a64_asm.specs.Operand.{Fewer, Three, triple_of, is_same, trio_of, base_of, offset_of, number_after, numbers_of, three_numbers, system_numbers};
 ghost use Rattle.a64_asm.specs.Text.{cut_of};
 
 use crate::register::{Register, read_register};
@@ -100,9 +100,9 @@ pub(crate) fn offset(text: &[u8]) -> Option<u64>
     }
 }
 
-/// The number behind a letter.
-fn number_behind(text: &[u8], letter: u8) -> Option<u64>
-    ensures { result ≡ number_behind letter text.now }
+/// The number after a letter.
+fn number_after(text: &[u8], letter: u8) -> Option<u64>
+    ensures { result ≡ number_after letter text.now }
 {
     match text.split_first() {
         Some((first, digits)) if *first == letter => number(digits),
@@ -117,7 +117,7 @@ pub(crate) fn system_numbers(text: &[u8]) -> Option<Numbers>
 {
     let (op0, others) = cut_at(text, b'_')?;
     let (op1, others) = cut_at(others, b'_')?;
-    last_numbers(number_behind(op0, b's'), number(op1), others)
+    last_numbers(number_after(op0, b's'), number(op1), others)
 }
 
 /// The numbers with the last three parts of the name.
@@ -129,8 +129,8 @@ fn last_numbers(op0: Option<u64>, op1: Option<u64>, text: &[u8]) -> Option<Numbe
     all_numbers(
         op0,
         op1,
-        number_behind(crn, b'c'),
-        number_behind(crm, b'c'),
+        number_after(crn, b'c'),
+        number_after(crm, b'c'),
         number(op2),
     )
 }

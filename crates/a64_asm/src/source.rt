@@ -31,7 +31,7 @@ pub struct Progress {
 /// A line is empty, a comment (`;` and any bytes), a label (`NAME:`), or one word in one of the forms that `list` writes,
 /// where a branch may name a label. The rules, tried in this order on each line: 1 the form, an end without LF included; 2 a
 /// number that the form doesn't admit, or a label too far away; 3 a label that no line defines; 4 a label that an earlier line
-/// defines; 5 a word behind 262,144 others.
+/// defines; 5 a word after 262,144 others.
 ///
 /// # Errors
 ///

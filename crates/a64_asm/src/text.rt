@@ -2,7 +2,7 @@
 ghost use Rattle.std.specs.Prelude.{◌≡◌, MatchOption};
 ghost use Rattle.a64_asm.specs.Text.{cut_of, operand_of, Whole, Parts};
 
-/// The bytes before the first of these, and those behind it, where there is one, in the words of the forms of lines.
+/// The bytes before the first of these, and those after it, where there is one, in the words of the forms of lines.
 #[tactic(auto, using(crate::proofs::Cuts::in_parts, crate::proofs::Cuts::whole))]
 pub(crate) fn cut_at(text: &[u8], byte: u8) -> Option<(&[u8], &[u8])>
     ensures { MatchOption result (cut_of byte text.now ≡ Whole)
@@ -11,7 +11,7 @@ pub(crate) fn cut_at(text: &[u8], byte: u8) -> Option<(&[u8], &[u8])>
     text_lines::cut_at(text, byte)
 }
 
-/// The first operand, and those behind its comma and blank, where there are more.
+/// The first operand, and those after its comma and blank, where there are more.
 #[tactic(auto, unfolding(crate::specs::Text::operand_of))]
 pub(crate) fn first_operand(text: &[u8]) -> Option<(&[u8], &[u8])>
     ensures { MatchOption result (operand_of text.now ≡ Whole)

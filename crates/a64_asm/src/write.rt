@@ -1,4 +1,4 @@
-//! Parts of a line, written behind a text.
+//! Parts of a line, written after a text.
 ghost use Rattle.std.specs.Prelude.{◌≡◌, ◌<◌, ◌++◌, ◌∷◌, [], OnOk};
 ghost use Rattle.std.specs.Fmt.{decimal};
 ghost use Rattle.numerals.specs.Hex.{hex};
@@ -80,7 +80,7 @@ pub(crate) fn push_offset(out: &mut Vec<u8>, offset: u64) -> Result<(), AllocErr
     }
 }
 
-/// Appends so many hexadecimal digits of a number, the lowest ones.
+/// Appends this many hexadecimal digits of a number, the lowest ones.
 #[tactic(auto, using(numerals::proofs::Hex::hex_more), unfolding(numerals::specs::Hex::hex))]
 pub(crate) fn push_hex(out: &mut Vec<u8>, digits: u32, number: u32) -> Result<(), AllocError>
     ensures { OnOk result (out.new.items ≡ out.old.items ++ hex digits number) }

@@ -15,7 +15,7 @@ differs bits value rest other = by_test (bits == value) refl
     by_test true e = let equal : bits ≡ value = grind (arith, nat_tests) in absurd (other equal)
     by_test false e = refl
 
--- the parts of the table, each without the rows behind it
+-- the parts of the table, each without the rows after it
 abbrev immediates : List Row
 immediates = address_row ∷ add_sub_immediate_row ∷ logical_immediate_row ∷ move_wide_row ∷ bitfield_row ∷ extract_row ∷ []
 

@@ -28,7 +28,7 @@ use Rattle.a64_decode.specs.declared.operand.Transfer.TheVariants.{LoadSigned, L
 abbrev pub IsReg : Reg → Type 0
 IsReg r = r.0 < 32
 
--- a number of so many bits, sign-extended to 64 bits
+-- a number of this many bits, sign-extended to 64 bits
 abbrev pub IsSigned : ℕ → ℕ → Type 0
 IsSigned width offset = (offset < 2 ^ (width - 1)) ⊎ ((2 ^ 64 - 2 ^ (width - 1) ≤ offset) × (offset < 2 ^ 64))
 

@@ -49,7 +49,7 @@ flag bit = bit == 1
 abbrev pub reg : ℕ → Reg
 reg number = record { 0 = number }
 
--- a number of so many bits, sign-extended to 64 bits, in two's complement
+-- a number of this many bits, sign-extended to 64 bits, in two's complement
 abbrev pub sign_extend : ℕ → ℕ → ℕ
 sign_extend width value = if nat_lt value (2 ^ (width - 1)) then value else value + (2 ^ 64 - 2 ^ width)
 
@@ -64,7 +64,7 @@ extended Sxth value = sign_extend 16 (value % 2 ^ 16)
 extended Sxtw value = sign_extend 32 (value % 2 ^ 32)
 extended Sxtx value = value
 
--- what a register is after a load of so many bits: with zeros above, or with their sign in a register of 64 or 32 bits
+-- what a register is after a load of this many bits: with zeros above, or with their sign in a register of 64 or 32 bits
 abbrev pub loaded : Bool → Bool → ℕ → ℕ → ℕ
 loaded signed wide width element =
     if signed then if wide then sign_extend width element else sign_extend width element % 2 ^ 32

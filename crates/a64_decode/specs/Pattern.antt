@@ -4,7 +4,7 @@ use Rattle.bao_types.specs.Bits.{field}
 use Rattle.a64_decode.specs.declared.instr.Instr.{Instr}
 use Rattle.a64_decode.specs.declared.instr.Instr.TheVariants.{Undefined}
 
--- a part of a word: bits with a value, so many and which, or a free field of so many bits
+-- a part of a word: bits with a value, how many and which, or a free field of this many bits
 pub data Part : Type 0 where
   Fixed : ℕ → ℕ → Part
   Free : ℕ → Part

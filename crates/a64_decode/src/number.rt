@@ -1,4 +1,4 @@
-//! Numbers of so many bits.
+//! Numbers of a width in bits.
 
 ghost use Rattle.std.specs.Prelude.{◌≡◌, ◌≤◌, ◌<◌, ◌%◌, ◌^◌};
 ghost use Rattle.a64_decode.specs.Lawful.{width_of, IsSigned};

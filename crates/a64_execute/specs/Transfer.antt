@@ -12,14 +12,14 @@ use Rattle.a64_decode.specs.declared.operand.PairKind.{PairKind}
 use Rattle.a64_decode.specs.declared.operand.Transfer.{Transfer}
 use Rattle.a64_address.specs.declared.shape.MemShape.{MemShape}
 
--- the elements of an access, of so many bits, in the order of their addresses
+-- the elements of an access, of this many bits, in the order of their addresses
 abbrev pub first_element : ℕ → ℕ → ℕ
 first_element bits got = got % 2 ^ bits
 
 abbrev pub second_element : ℕ → ℕ → ℕ
 second_element bits got = got / 2 ^ bits % 2 ^ bits
 
--- after a load of one element of so many bits to Rt; a store leaves it
+-- after a load of one element of this many bits to Rt; a store leaves it
 abbrev pub with_element : Transfer → ℕ → Reg → ℕ → CoreData → CoreData
 with_element transfer bits rt element core =
     if is_store transfer then core

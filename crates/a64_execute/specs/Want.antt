@@ -101,7 +101,7 @@ asked core Undefined = undefined_at core
 abbrev pub bytes_of : MemShape → ℕ
 bytes_of shape = shape.width * shape.count
 
--- What is stored, whose elements have so many bits: the lowest bits of Rt, and of a pair's Rt2 after them in memory.
+-- What is stored, whose elements have this many bits: the lowest bits of Rt, and of a pair's Rt2 after them in memory.
 -- The value is the bytes in address order as one little-endian number. No other row stores, so theirs means nothing.
 abbrev pub stored_value : CoreData → Instr → ℕ → ℕ
 stored_value core (Pair kind mode load offset rt2 rn rt) bits = low_x core bits rt + 2 ^ bits * low_x core bits rt2
@@ -154,7 +154,7 @@ access_asked need.Done = None
 access_asked (need.Load shape) = Some shape
 access_asked (need.Store shape value) = Some shape
 access_asked (need.Raise esr back) = None
-access_asked (need.Leave esr behind) = None
+access_asked (need.Leave esr past) = None
 access_asked need.Acknowledge = None
 access_asked (need.End id) = None
 
@@ -166,7 +166,7 @@ is_of_core_alone (need.End id) = true
 is_of_core_alone (need.Load shape) = false
 is_of_core_alone (need.Store shape value) = false
 is_of_core_alone (need.Raise esr back) = false
-is_of_core_alone (need.Leave esr behind) = false
+is_of_core_alone (need.Leave esr past) = false
 
 -- an access of one or two elements of 1, 2, 4 or 8 bytes
 pub record IsAccess (shape : MemShape) : Type 0 where
@@ -179,6 +179,6 @@ IsNeed need.Done = Unit {0}
 IsNeed (need.Load shape) = IsAccess shape × IsFalse shape.store
 IsNeed (need.Store shape value) = IsAccess shape × IsTrue shape.store
 IsNeed (need.Raise esr back) = Unit {0}
-IsNeed (need.Leave esr behind) = Unit {0}
+IsNeed (need.Leave esr past) = Unit {0}
 IsNeed need.Acknowledge = Unit {0}
 IsNeed (need.End id) = id < id_end

@@ -29,8 +29,8 @@ pub enum Need {
     Store { shape: MemShape, value: u128 },
     /// That EL1 takes an exception of this syndrome, which returns to the address `back`.
     Raise { esr: u64, back: u64 },
-    /// That EL2 takes an exception of this syndrome. PC goes to the one after the instruction where `behind` says so, else it stays.
-    Leave { esr: u64, behind: bool },
+    /// That EL2 takes an exception of this syndrome. PC goes past the instruction where `past` says so, else it stays.
+    Leave { esr: u64, past: bool },
 }
 
 /// What an instruction asks before it can be completed. Nothing changes.
@@ -106,8 +106,8 @@ fn exception(core: &Core, kind: ExceptionKind, imm16: u16) -> Need
             esr,
             back: core.pc.wrapping_add(4),
         },
-        ExceptionKind::Hvc => at_el1(core, Need::Leave { esr, behind: true }),
-        ExceptionKind::Smc => at_el1(core, Need::Leave { esr, behind: false }),
+        ExceptionKind::Hvc => at_el1(core, Need::Leave { esr, past: true }),
+        ExceptionKind::Smc => at_el1(core, Need::Leave { esr, past: false }),
         ExceptionKind::Brk => Need::Raise { esr, back: core.pc },
     }
 }
@@ -154,7 +154,7 @@ fn write_register(core: &Core, id: SysId, rt: Reg) -> Need
         SysWrite::Undefined => undefined(core),
         SysWrite::TrapEl2 => Need::Leave {
             esr: register_write_syndrome(id, rt),
-            behind: false,
+            past: false,
         },
     }
 }

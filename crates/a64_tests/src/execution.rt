@@ -525,20 +525,20 @@ const BRK_0: Need = Need::Raise { esr: 0xF200_0000, back: 0x4000 };
 const BRK_65535: Need = Need::Raise { esr: 0xF200_FFFF, back: 0x4000 };
 
 #[rattlefmt::skip]
-const HVC_0: Need = Need::Leave { esr: 0x5A00_0000, behind: true };
+const HVC_0: Need = Need::Leave { esr: 0x5A00_0000, past: true };
 
 #[rattlefmt::skip]
-const HVC_1: Need = Need::Leave { esr: 0x5A00_0001, behind: true };
+const HVC_1: Need = Need::Leave { esr: 0x5A00_0001, past: true };
 
 #[rattlefmt::skip]
-const SMC_0: Need = Need::Leave { esr: 0x5E00_0000, behind: false };
+const SMC_0: Need = Need::Leave { esr: 0x5E00_0000, past: false };
 
 #[rattlefmt::skip]
-const SMC_65535: Need = Need::Leave { esr: 0x5E00_FFFF, behind: false };
+const SMC_65535: Need = Need::Leave { esr: 0x5E00_FFFF, past: false };
 
 /// EL2 takes the write of ICC_SGI1R_EL1 from X0, by class 0x18.
 #[rattlefmt::skip]
-const SGI: Need = Need::Leave { esr: 0x623A_3016, behind: false };
+const SGI: Need = Need::Leave { esr: 0x623A_3016, past: false };
 
 /// What an instruction asks at EL1 with its own SP, and at EL0.
 type Asks = (&'static str, u32, Need, Need);

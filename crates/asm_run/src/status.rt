@@ -17,7 +17,7 @@ pub enum AsmStatus {
     OutOfMemory,
     /// The first line of the source that breaks a rule, counted from 1, and the first rule that it breaks.
     BadLine { line: u32, rule: u8 },
-    /// So many bytes are no image.
+    /// This many bytes are no image.
     BadLength { len: u32 },
 }
 

@@ -32,7 +32,7 @@ fn drawn_words_come_back(rt: HostRuntime) -> Result<(), AllocError> {
     Ok(())
 }
 
-/// A first text, so many times a second one, and a last.
+/// A first text, this many times a second one, and a last.
 fn repeated(
     alloc: Global,
     first: &str,
@@ -52,7 +52,7 @@ fn repeated(
 type Row = (&'static str, &'static str, u32, &'static str, &'static str);
 
 /// Labels at the greatest distance forward of each branch, and one word past it. Lines without a form count as words too,
-/// and so does what stands behind the limit of an image.
+/// and so does what stands after the limit of an image.
 #[rattlefmt::skip]
 static DISTANCES: [Row; 6] = [
     ("cbz x0, there\n", "q\n", 262_142, "there:\n", "line 2 rule 1"),
@@ -73,7 +73,7 @@ static FAR_DISTANCES: [Row; 4] = [
 ];
 
 /// An image of the greatest length, with a label at the greatest distance back that fits there, and what breaks a rule
-/// behind it: the limit alone, and another rule before it.
+/// after it: the limit alone, and another rule before it.
 #[rattlefmt::skip]
 static LIMITS: [Row; 8] = [
     ("back:\n", "nop\n", 262_143, "cbnz w1, back\n", "1048576 1f2003d5 21008035"),
@@ -118,7 +118,7 @@ fn limits(rt: HostRuntime) -> Result<(), AllocError> {
     Ok(())
 }
 
-/// A length, and what the listing of so many zeros begins with.
+/// A length, and what the listing of this many zeros begins with.
 static LENGTHS: [(usize, &str); 7] = [
     (0, ""),
     (1, "length 1"),

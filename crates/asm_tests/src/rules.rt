@@ -54,7 +54,7 @@ eret ~|line 1 rule 1
 .word ~|line 1 rule 1
 a: ~|line 1 rule 1";
 
-/// Lines that have no form. The line's end stands behind each.
+/// Lines that have no form. The line's end stands after each.
 static NO_FORM: &str = "\
 movz x0,5, 0
 movz  x0, 5, 0

@@ -11,7 +11,7 @@ use report::Status;
 use sim_board::SimBoard;
 use std::alloc::{AllocError, Global};
 
-/// The ports of the standard list behind the consoles, in its order.
+/// The ports of the standard list after the consoles, in its order.
 const SCRATCH_PORTS: u8 = 4;
 
 const TICKERS: u8 = 4;

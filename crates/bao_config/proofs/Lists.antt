@@ -20,7 +20,7 @@ first-append : (e : ConfigError) (xs ys : List ConfigError) → first xs ≡ Som
 first-append e [] ys h = absurd cc
 first-append e (x ∷ xs) ys h = h
 
--- the first fault stays the first, whatever faults come behind it
+-- the first fault stays the first, whatever faults come after it
 pub is_first_append : (e : ConfigError) (xs ys : List ConfigError) → IsFirst e xs → IsFirst e (xs ++ ys)
 is_first_append OutOfMemory xs ys h = tt
 is_first_append BadToml xs ys h = first-append BadToml xs ys h

@@ -38,7 +38,7 @@ pub text_refused : (test : List ℕ → Bool) (spot : Spot) (o : Option Data) (t
 text_refused test spot None t is fails = absurd cc
 text_refused test spot (Some d) t is fails = rw (is, fails)
 
--- a text among borrowed ones, and none behind them
+-- a text among borrowed ones, and none after them
 pub text_at : (texts : List (Bor (List ℕ))) (i : ℕ) (d : Bor (List ℕ)) → i < length texts → (get_or texts i d).now ≡ unwrap_or (slice_get (map (λ s. s.now) texts) i) []
 text_at [] i d h = absurd (omega arith)
 text_at (t ∷ texts) zero d h = refl

@@ -16,7 +16,7 @@ mutual
     number : Bounds → Item
     -- a text that passes the test
     text : (List ℕ → Bool) → Item
-    -- an array of at least and at most so many items, all at one row: the n-th is at the spot that the function makes
+    -- an array of at least and at most this many items, all at one row: the n-th is at the spot that the function makes
     list : (least most : ℕ) → (row : ℕ) → (ℕ → Spot → Spot) → Item → Item
     -- a table with these keys
     keyed : Keys → Item
@@ -67,7 +67,7 @@ names_of (optional row name what keys) = name ∷ names_of keys
 abbrev pub passing : {X : Type 0} → (X → Bool) → X → Option X
 passing test x = if test x then Some x else None
 
--- the array that the item is, if it has at least and at most so many items
+-- the array that the item is, if it has at least and at most this many items
 abbrev pub items_within : ℕ → ℕ → Data → Option Items
 items_within least most d = option_and_then (passing (λ ds. is_length least most (count ds))) (as_array d)
 

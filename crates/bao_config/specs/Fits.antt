@@ -9,7 +9,7 @@ use Rattle.bao_config.specs.Bounds.{IsInBounds, version, base, size, entries, fr
 use Rattle.bao_config.specs.Texts.{is_name, is_file_name}
 use Rattle.bao_config.specs.Data.{PlatformData, IpcData, VmData, ConfigData}
 
--- a list of at least and at most so many elements, of which each fits
+-- a list of at least and at most this many elements, of which each fits
 pub record ListFits {X : Type 0} (least most : ℕ) (Fits : X → Type 0) (xs : List X) : Type 0 where
   pub long_enough : least ≤ length xs
   pub short_enough : length xs ≤ most

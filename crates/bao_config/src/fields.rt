@@ -40,7 +40,7 @@ pub(crate) fn table_of(item: &Value, spot: Spot) -> Result<&Table, ConfigError>
     item.as_table().ok_or(ConfigError::BadShape { spot })
 }
 
-/// The items of an array of at least and at most so many.
+/// The items of an array of at least and at most this many.
 #[tactic(auto, using(crate::proofs::Lists::count_items_view))]
 pub(crate) fn items_of(
     item: &Value,

@@ -38,7 +38,7 @@ pub(crate) trait Items {
         ensures { Reads plain Fits result (faults_at spot n (view item.now)) (record_of (view item.now)) };
 }
 
-/// Reads an array of at least so many items and at most `N`, in order.
+/// Reads an array of at least this many items and at most `N`, in order.
 pub(crate) fn read_items<I: Items, const N: usize>(
     item: &Value,
     least: usize,

@@ -23,7 +23,7 @@ booted input = boot input.cfg input.images
 abbrev pub final : InputData → Flat
 final input = flat_run input.cfg (booted input) input.events
 
--- All events were run: the board has the shape of the configuration for so many events; the entries of each core realise the
+-- All events were run: the board has the shape of the configuration for this many events; the entries of each core realise the
 -- map, and are its packing with zero entries after it; each event whose core ran has entered it; and memory, cores, ports and
 -- raised lines are those of the model, as are the interrupts of each VM, those in its cores' list registers and those kept besides.
 pub record IsRunThrough (m : Machine) (input : InputData) : Type 0 where

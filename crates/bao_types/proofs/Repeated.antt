@@ -5,7 +5,7 @@ use Rattle.std.proofs.Math.Pow.{pow_mono}
 use Rattle.std.proofs.lemmas.Nat.{pow-add}
 use Rattle.bao_types.specs.Bitmask.{repeated, filled}
 
--- copies of an element are so many times copies of 1
+-- copies of an element are this many times copies of 1
 pub repeated-mul : (count size element : ℕ) → repeated count size element ≡ element * repeated count size 1
 unfolding repeated
 repeated-mul zero size element = sym (mul-zero element)

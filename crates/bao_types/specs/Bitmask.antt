@@ -17,7 +17,7 @@ is_reserved n imms wide =
     || (n == 1 && not wide)
     || (imms % 2 ^ element_log n imms == 2 ^ element_log n imms - 1)
 
--- so many ones, from bit 0 on
+-- this many ones, from bit 0 on
 abbrev pub ones : ℕ → ℕ
 ones count = 2 ^ count - 1
 

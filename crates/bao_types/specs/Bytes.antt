@@ -14,12 +14,12 @@ abbrev pub little_endian : List ℕ → ℕ
 little_endian [] = 0
 little_endian (byte ∷ bytes) = byte + 256 * little_endian bytes
 
--- so many bytes of memory from an address on
+-- this many bytes of memory from an address on
 abbrev pub bytes_from : (ℕ → ℕ) → ℕ → ℕ → List ℕ
 bytes_from bytes at zero = []
 bytes_from bytes at (suc count) = bytes at ∷ bytes_from bytes (next_address at) count
 
--- the lowest bytes of a number, so many
+-- the lowest bytes of a number, this many
 abbrev pub low_bytes : ℕ → ℕ → List ℕ
 low_bytes zero value = []
 low_bytes (suc count) value = value % 256 ∷ low_bytes count (value / 256)

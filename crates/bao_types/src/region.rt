@@ -2,7 +2,7 @@ ghost use Rattle.std.specs.Prelude.{◌≡◌};
 
 use std::marker::Model;
 
-/// The bytes of a granule: a protection region begins at a multiple of so many bytes and ends before one.
+/// The bytes of a granule: a protection region begins at a multiple of this many bytes and ends before one.
 pub const GRANULE: u64 = 64;
 
 /// The bits that a write of a base register keeps: BASE, SH, AP and XN.

@@ -2,7 +2,7 @@ ghost use Rattle.std.specs.Prelude.{◌≡◌, ◌*◌, ◌^◌, ◌≤◌};
 ghost use Rattle.bao_types.specs.Bytes.{IsWidth};
 
 /// The weight, in a number whose least byte comes first, of what stands after an element of `width` bytes: one more
-/// than the largest number of so many bytes.
+/// than the largest number of this many bytes.
 #[inline]
 pub fn weight_after(width: u32) -> u128
     requires { IsWidth width }

@@ -113,7 +113,7 @@ module _ (cfg : ConfigData) (keeps : IsKept cfg) where
       behind [] k' = let e : 0 + k ≡ k = omega arith in ap (slice_get after_banks) e ∙ got
       behind (piece' ∷ front) k' = let e : suc (length front) + k ≡ suc (length front + k) = omega arith in ap (slice_get (piece' ∷ front ++ after_banks)) e ∙ behind front k'
 
-  -- no bank has a byte of what stands behind the banks, nor of its margin
+  -- no bank has a byte of what stands after the banks, nor of its margin
   banks_leave_out : (k : ℕ) (piece : Piece) (at : ℕ) → slice_get after_banks k ≡ Some piece → is_within piece.with_margin at ≡ true
       → All (λ bank. is_within bank at ≡ false) cfg.platform.banks
   banks_leave_out k piece at got inside i d low =

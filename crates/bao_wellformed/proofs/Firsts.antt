@@ -21,7 +21,7 @@ pub empty_without_first : {A : Type 0} (xs : List A) → None ≡ first xs → x
 empty_without_first [] h = refl
 empty_without_first (x ∷ xs) h = cc
 
--- rule by rule: the first break of a rule is the first of all behind it too, and without one the next rule decides
+-- rule by rule: the first break of a rule is the first of all after it too, and without one the next rule decides
 pub stops : {A : Type 0} (result : Option A) (xs ys : List A) → result ≡ first xs → is_some result ≡ true → result ≡ first (xs ++ ys)
 stops result xs ys says some = says ∙ sym (first_in_front xs ys (ap is_some (sym says) ∙ some))
 

@@ -337,8 +337,8 @@ module _ (one two : Stage) (places : Places) (states : PortStates) (bytes : ℕ 
       (by_store instr shape value (some_bytes shape.width (asked_width core instr shape (ap access_asked is)))
       (first_fault one two Write shape.at (bytes_of shape)) (has_no_port places shape.at (bytes_of shape)) refl)
   by_need instr (need.Raise esr back) is = by_raised esr back None
-  by_need instr (need.Leave esr behind) is =
-      nothing (effect_of (reach_of one two places states bytes) core moment instr (need.Leave esr behind)) refl refl
+  by_need instr (need.Leave esr past) is =
+      nothing (effect_of (reach_of one two places states bytes) core moment instr (need.Leave esr past)) refl refl
 
   by_word : (word : ℕ) → KeepsToItself (word_effect (reach_of one two places states bytes) core moment word)
   by_word word =

@@ -171,7 +171,7 @@ effect_of reach core moment instr (need.Store shape value) =
     (store_effect reach.places core (record { moment = moment; instr = instr; shape = shape }) value
     (reach.storable shape.at shape.width shape.count))
 effect_of reach core moment instr (need.Raise esr back) = raised core esr None back
-effect_of reach core moment instr (need.Leave esr behind) = left (if behind then advanced core else core) esr 0
+effect_of reach core moment instr (need.Leave esr past) = left (if past then advanced core else core) esr 0
 
 -- a word that was fetched; it isn't looked at in an illegal state
 abbrev pub word_effect : Reach → CoreData → Moment → ℕ → Effect

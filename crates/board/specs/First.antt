@@ -6,13 +6,13 @@ use Rattle.board.specs.Stage.{Stage, is_allowed, both}
 use Rattle.board.specs.Ports.{address_from}
 use Rattle.board.specs.Judge.{all_from, first_fault}
 
--- the bytes of an access, so many from an address on, and its kind
+-- the bytes of an access, this many from an address on, and its kind
 pub record AccessedBytes : Type 0 where
   pub access : Access
   pub at : ℕ
   pub count : ℕ
 
--- the first of them, so many, are allowed by both stages
+-- the first of them, this many, are allowed by both stages
 abbrev pub AreAllowed : Stage → Stage → AccessedBytes → ℕ → Type 0
 AreAllowed one two bytes number = IsTrue (all_from (λ byte. is_allowed (both one two bytes.access byte)) bytes.at number)
 

@@ -13,7 +13,7 @@ use Rattle.board.specs.declared.judged.Fault.{Fault}
 use Rattle.board.specs.declared.judged.Judged.{Judged}
 use Rattle.board.specs.declared.judged.Judged.TheVariants.{Memory, Port, Refused}
 
--- each of so many addresses from one on passes a test
+-- each of this many addresses from one on passes a test
 abbrev pub all_from : (ℕ → Bool) → ℕ → ℕ → Bool
 all_from test at zero = true
 all_from test at (suc n) = test at && all_from test (next_address at) n
@@ -24,7 +24,7 @@ fault_or stage2 Allow at later = later
 fault_or stage2 Translation at later = Some (record { stage2 = stage2; verdict = Translation; at = at })
 fault_or stage2 Permission at later = Some (record { stage2 = stage2; verdict = Permission; at = at })
 
--- the first refused one of so many bytes from an address on, by these two stages
+-- the first refused one of this many bytes from an address on, by these two stages
 abbrev pub first_fault : Stage → Stage → Access → ℕ → ℕ → Option Fault
 first_fault one two access at zero = None
 first_fault one two access at (suc n) =
@@ -35,12 +35,12 @@ abbrev pub fault_else : Option Fault → Judged → Judged
 fault_else None allowed = allowed
 fault_else (Some fault) allowed = Refused fault
 
--- none of so many bytes from an address on is a port's
+-- none of this many bytes from an address on is a port's
 abbrev pub has_no_port : Places → ℕ → ℕ → Bool
 has_no_port places at n = all_from (λ byte. not (is_port places byte)) at n
 
--- What a core reaches of the world: the word at an address, a multiple of 4; the number that so many elements of a width from
--- an address on are; whether it may store to so many, where the number means nothing; and where the ports stand.
+-- What a core reaches of the world: the word at an address, a multiple of 4; the number that this many elements of a width from
+-- an address on are; whether it may store to this many, where the number means nothing; and where the ports stand.
 pub record Reach : Type 0 where
   pub fetched : ℕ → Judged
   pub loaded : (at width count : ℕ) → Judged

@@ -97,7 +97,7 @@ abbrev pub written : List (ℕ × ℕ) → (ℕ → ℕ) → ℕ → ℕ
 written [] bytes = bytes
 written (store ∷ stores) bytes = written stores (with_byte store.0 store.1 bytes)
 
--- each of so many bytes from an address on is in use
+-- each of this many bytes from an address on is in use
 abbrev pub AreUsed : ShapeData → ℕ → ℕ → Type 0
 AreUsed shape from count = (at : ℕ) → from ≤ at → at < from + count → IsTrue (is_used shape at)
 

@@ -64,7 +64,7 @@ outputs states port = output_of (states port)
 abbrev pub with_port : ℕ → PortState → PortStates → PortStates
 with_port port state states other = if other == port then state else states other
 
--- what is done to a port: so many bytes at an offset of it are read, or written with a value
+-- what is done to a port: this many bytes at an offset of it are read, or written with a value
 pub data PortAccess : Type 0 where
   ReadPort : (port offset width : ℕ) → PortAccess
   WritePort : (port offset width value : ℕ) → PortAccess
@@ -94,16 +94,16 @@ raises_line [] states port = false
 raises_line (access ∷ accesses) states port =
     raises access states && port_of access == port || raises_line accesses (accessed access states) port
 
--- the number that so many bytes of memory from an address on are
+-- the number that this many bytes of memory from an address on are
 abbrev pub number_at : (ℕ → ℕ) → ℕ → ℕ → ℕ
 number_at bytes at n = little_endian (bytes_from bytes at n)
 
--- the lowest bytes of a value, so many, each with its address, from an address on
+-- the lowest bytes of a value, this many, each with its address, from an address on
 abbrev pub stores_from : ℕ → ℕ → ℕ → List (ℕ × ℕ)
 stores_from at zero value = []
 stores_from at (suc n) value = (at, value % 256) ∷ stores_from (next_address at) n (value / 256)
 
--- the address that stands so many bytes after another
+-- the address that stands this many bytes after another
 abbrev pub address_from : ℕ → ℕ → ℕ
 address_from at zero = at
 address_from at (suc k) = address_from (next_address at) k
@@ -136,7 +136,7 @@ pub record Source : Type 0 where
 abbrev pub source_after : List PortAccess → Source → Source
 source_after accesses source = record source { states = all_accessed accesses source.states }
 
--- Elements of one width, so many, one after the other: the number that they read, the first of them lowest, each from the
+-- Elements of one width, this many, one after the other: the number that they read, the first of them lowest, each from the
 -- ports as those before it left them; what reading them does to the ports; and of writing them with the parts of a value.
 abbrev pub elements_value : Source → ℕ → ℕ → ℕ → ℕ
 elements_value source at width zero = 0

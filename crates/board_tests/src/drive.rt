@@ -34,7 +34,7 @@ pub enum Seen {
 /// A call at a core, with what it is to answer.
 #[derive(Clone, Copy)]
 pub enum Call {
-    /// So many steps at count 0, at most 16, none of which EL2 hears of.
+    /// This many steps at count 0, at most 16, none of which EL2 hears of.
     Run(u8),
     /// A step at a count, and how it ends.
     Step(u64, Exit),
@@ -116,7 +116,7 @@ fn is_met<B: Board>(board: &mut B, table: &mut IrqTable, core: u8, call: &Call) 
     }
 }
 
-/// So many steps of a core, of which EL2 hears of none.
+/// This many steps of a core, of which EL2 hears of none.
 fn run<B: Board>(board: &mut B, core: u8, steps: u8) -> bool
     requires ready { IsReady (B.state board.old) }
     requires core { core < 3 }

@@ -216,7 +216,7 @@ static SEVERAL_PLACES: [Row; 4] = [
     ("an unknown key of a table inside before one of the table",
         "gicr = 0xaf100000\nports = [{ id = 0,",
         "extra = 1\ngicr = 0xaf100000\nports = [{ name = 1, id = 0,", [row::PORT, 0, 0, 0], None),
-    ("two unknown keys are one fault, behind a later row's",
+    ("two unknown keys are one fault, after a later row's",
         "version = 1\n[platform]",
         "width = 1\nheight = 1\nversion = 1\n[platforms]", [row::PLATFORM, 0, 0, 0], None),
 ];

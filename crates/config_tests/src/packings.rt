@@ -77,7 +77,7 @@ static ROWS: [Row; 11] = [
         &[("load = 0x100000\nroom = 0x8000", "load = 0x100000\nroom = 0x40"), (REGION_A, "regions = [{ base = 0x100000, size = 0x40, access = \"rwx\" }]"), (DEV_A, "")],
         0, "2 ffc1 100004 100001"),
     ("a guard splits a region", &[(DEV_A, "guards = [{ base = 0x108000, size = 0x40 }]\n")], 0, "2 ffc1 100004 107fc1 108044 10ffc1"),
-    ("a window behind memory of equal grant",
+    ("a window after memory of equal grant",
         &[(REGION_A, "regions = [{ base = 0x100000, size = 0x10000, access = \"rwx\" }, { base = 0x17f000, size = 0x1000, access = \"rw\" }]")],
         0, "2 ffc1 100004 10ffc1 17f006 180fc1 9c090006 9c090003"),
     ("a read-only window", &[("access = \"rw\", irqs = [50, 51]", "access = \"r\", irqs = [50, 51]")], 0, "2 ffc1 100004 10ffc1 18000e 180fc1 9c090006 9c090003"),

@@ -10,7 +10,7 @@ use std::test::Fail;
 
 #[rattlefmt::skip]
 static TOUCHED: [Touched; 11] = [
-    // shows, stores, loads, lines of X2 and behind it
+    // shows, stores, loads, lines of X2 and after it
     ("the distributor's control",
         &[(4, GICD, 0xff)],
         &[(4, GICD)], "x2 0000000000000052\n"),
@@ -77,7 +77,7 @@ static SWEPT: [Swept; 49] = [
         &[(4, GICD + 0x104, 0xffff_ffff), (4, GICD + 0x108, 0x8000_0001)], GICD + 0x188, "x14 0000000080000001\n"),
     ("before the first of these",
         &[(4, GICD + 0x104, 0xffff_ffff), (4, GICD + 0x108, 0x8000_0001)], GICD + 0x178, ""),
-    ("behind the last of these",
+    ("after the last of these",
         &[(4, GICD + 0x104, 0xffff_ffff), (4, GICD + 0x108, 0x8000_0001)], GICD + 0x190, ""),
     ("32 to 63 are pending",
         &[(4, GICD + 0x204, 0xffff_ffff), (4, GICD + 0x208, 0x8000_0001)], GICD + 0x200, "x15 00000000ffffffff\n"),
@@ -85,7 +85,7 @@ static SWEPT: [Swept; 49] = [
         &[(4, GICD + 0x204, 0xffff_ffff), (4, GICD + 0x208, 0x8000_0001)], GICD + 0x208, "x14 0000000080000001\n"),
     ("before the first pending",
         &[(4, GICD + 0x204, 0xffff_ffff), (4, GICD + 0x208, 0x8000_0001)], GICD + 0x1f8, ""),
-    ("behind the last pending",
+    ("after the last pending",
         &[(4, GICD + 0x210, 0xffff_ffff)], GICD + 0x210, ""),
     ("32 to 63, to be pending no more",
         &[(4, GICD + 0x204, 0xffff_ffff), (4, GICD + 0x208, 0x8000_0001)], GICD + 0x280, "x15 00000000ffffffff\n"),
@@ -127,7 +127,7 @@ static SWEPT: [Swept; 49] = [
         &[(4, SGI + 0x200, 0xf000_000f)], SGI + 0x200, "x14 00000000f000000f\n"),
     ("and are to be pending no more",
         &[(4, SGI + 0x200, 0xf000_000f)], SGI + 0x280, "x14 00000000f000000f\n"),
-    ("behind a core's enabled ids",
+    ("after a core's enabled ids",
         &[(4, SGI + 0x104, 0xffff_ffff), (4, SGI + 0x108, 0xffff_ffff)], SGI + 0x108, ""),
     ("before a core's priorities",
         &[(4, SGI + 0x3f8, 0xffff_ffff), (4, SGI + 0x3fc, 0xffff_ffff)], SGI + 0x3f8, ""),
@@ -135,7 +135,7 @@ static SWEPT: [Swept; 49] = [
         &[(4, SGI + 0x400, 0xff80_4008), (1, SGI + 0x407, 0x7f)], SGI + 0x400, "x2 0000000000000008\nx3 0000000000000040\nx4 0000000000000080\nx5 00000000000000f8\nx9 0000000000000078\nx14 00000000f8804008\nx15 0000000078000000\n"),
     ("its last priorities",
         &[(4, SGI + 0x41c, 0xffff_ffff)], SGI + 0x418, "x6 00000000000000f8\nx7 00000000000000f8\nx8 00000000000000f8\nx9 00000000000000f8\nx15 00000000f8f8f8f8\n"),
-    ("behind a core's priorities",
+    ("after a core's priorities",
         &[(4, SGI + 0x420, 0xffff_ffff), (1, SGI + 0x424, 0xff)], SGI + 0x420, ""),
     ("a core's second frame has no control",
         &[(4, GICD, 2), (4, SGI, 0xffff_ffff)], SGI, ""),
@@ -147,7 +147,7 @@ static SWEPT: [Swept; 49] = [
         &[], GICR + 0x8, "x14 0000000000000010\nx16 0000000000000010\n"),
     ("it can't be written",
         &[(4, GICR + 0x8, 0), (4, GICR + 0xc, 0xffff_ffff), (8, GICR + 0x8, 0xffff_ffff)], GICR + 0x8, "x14 0000000000000010\nx16 0000000000000010\n"),
-    ("behind its type",
+    ("after its type",
         &[(8, GICR + 0x10, 0xffff_ffff)], GICR + 0x10, ""),
     ("its first frame has no ids",
         &[(4, SGI + 0x100, 0xffff_ffff), (4, GICR + 0x100, 0xffff_ffff)], GICR + 0x100, ""),
@@ -225,7 +225,7 @@ static IGNORED: [Ignored; 22] = [
         (4, GICD + 0x45c, 0x4848_4848), HALVES, GICD + 0x458, 0xffff_ffff_ffff_ffff, [(4, GICD + 0x458), (4, GICD + 0x45c)], "x3 0000000048484848\n"),
     ("priorities before 32's",
         (4, GICD + 0x420, 0x4848_4848), ALL, GICD + 0x418, 0xffff_ffff_ffff_ffff, [(4, GICD + 0x420), (4, SGI + 0x418)], "x2 0000000048484848\n"),
-    ("priorities behind 95's",
+    ("priorities after 95's",
         (4, GICD + 0x45c, 0x4848_4848), ALL, GICD + 0x460, 0xffff_ffff_ffff_ffff, [(4, GICD + 0x45c), (4, GICD + 0x460)], "x2 0000000048484848\n"),
     ("a route",
         (4, GICD, 0), ALL, GICD + 0x6100, 0xffff_ffff_ffff_ffff, [(4, GICD + 0x6100), (4, GICD + 0x6104)], ""),

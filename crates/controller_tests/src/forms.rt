@@ -179,7 +179,7 @@ console"),
     ("8 bytes over the end of the distributor", &[0xd2b5_e001, 0x9140_4021, 0xf85f_c022],
         "core 0 parked 93c28004 00000000af00fffc\npc 0000000000100008\n"),
     // movz x1, #0xaf00, lsl #16; add x1, x1, #0x10, lsl #12; ldrb w2, [x1]
-    ("a byte behind the distributor", &[0xd2b5_e001, 0x9140_4021, 0x3940_0022],
+    ("a byte after the distributor", &[0xd2b5_e001, 0x9140_4021, 0x3940_0022],
         "core 0 parked 93020004 00000000af010000\npc 0000000000100008\n"),
     // movz x1, #0xaf00, lsl #16; add x1, x1, #0x10, lsl #12; strb w2, [x1]
     ("a byte stored there", &[0xd2b5_e001, 0x9140_4021, 0x3900_0022],
@@ -191,7 +191,7 @@ console"),
     ("a byte before the first redistributor", &[0xd2b5_e201, 0x385f_f022],
         "core 0 parked 93020004 00000000af0fffff\npc 0000000000100004\n"),
     // movz x1, #0xaf12, lsl #16; ldrb w2, [x1]
-    ("a byte behind the last redistributor", &[0xd2b5_e241, 0x3940_0022],
+    ("a byte after the last redistributor", &[0xd2b5_e241, 0x3940_0022],
         "core 0 parked 93020004 00000000af120000\npc 0000000000100004\n"),
     // movz x1, #0xaf12, lsl #16; ldr x2, [x1, #8]
     ("the type of a redistributor that the VM doesn't have", &[0xd2b5_e241, 0xf940_0422],
@@ -215,7 +215,7 @@ static PARKED_OF_TWO: [Guest; 2] = [
     ("a redistributor past the second", &[0xd2b5_e281, 0xb940_0822],
         "core 0 parked 93820004 00000000af140008\npc 0000000000100004\n"),
     // movz x1, #0xaf13, lsl #16; mov w3, #0x10000; ldrb w2, [x1, x3]
-    ("a byte behind the second", &[0xd2b5_e261, 0x52a0_0023, 0x3863_6822],
+    ("a byte after the second", &[0xd2b5_e261, 0x52a0_0023, 0x3863_6822],
         "core 0 parked 93020004 00000000af140000\npc 0000000000100008\n"),
 ];
 
@@ -235,7 +235,7 @@ const STAGE: [u32; 16] = [
     0xd518_6827, 0xd280_0027, 0xd518_6227, 0xf2b5_e005, 0xf2b5_e006, 0xd518_6805, 0xd518_6826, 0xd518_1007,
 ];
 
-/// What a row shows, the words in front, those behind, at 0x100048, and a part of the report.
+/// What a row shows, the words in front, those after, at 0x100048, and a part of the report.
 type Staged = (&'static str, [u32; 2], &'static [u32], &'static str);
 
 #[rattlefmt::skip]

@@ -85,7 +85,7 @@ fn images(alloc: Global) -> Result<[Vec<u8>; 2], Fail> {
     Ok([a, b])
 }
 
-/// In each of so many rounds each VM takes so many steps at one count, of its first and its second core in an order of its own.
+/// In each of these rounds each VM takes [`STEPS`] steps at one count, of its first and its second core in an order of its own.
 const ROUNDS: u8 = 40;
 
 const STEPS: u32 = 8;

@@ -26,7 +26,7 @@ pub(crate) type Store = (u32, u64, u64);
 /// A width, and a place.
 pub(crate) type Load = (u32, u64);
 
-/// What a row shows, what is stored, what is loaded into X2 and the registers behind it, and the lines of those that aren't
+/// What a row shows, what is stored, what is loaded into X2 and the registers after it, and the lines of those that aren't
 /// zero.
 pub(crate) type Touched = (
     &'static str,
@@ -45,7 +45,7 @@ struct Program {
 /// Where the data begins in the image.
 const DATA: usize = 0x4000;
 
-/// `add x29, x29, #4, lsl #12` behind `adr x29, .`
+/// `add x29, x29, #4, lsl #12` after `adr x29, .`
 const TO_THE_DATA: [u32; 2] = [0x1000_001d, 0x9140_13bd];
 
 /// `ldr x0, [x29], #8`
@@ -116,7 +116,7 @@ fn written(alloc: Global, stores: &[Store], loads: &[Load]) -> Result<Program, F
     Ok(program)
 }
 
-/// Runs the program of stores and loads in a VM, and looks for the lines of what it loaded, behind that of the last place.
+/// Runs the program of stores and loads in a VM, and looks for the lines of what it loaded, after that of the last place.
 pub(crate) fn check_touched(
     rt: &impl Abort,
     alloc: Global,

@@ -18,7 +18,7 @@ pub record Place : Type 0 where
 abbrev pub flat_of : ConfigData → Place → Flat
 flat_of cfg place = stands_for cfg place.hyp place.machine
 
--- so many of all events were taken from the start to here, and these are left
+-- this many of all events were taken from the start to here, and these are left
 pub record IsRunning (cfg : ConfigData) (start now : Place) (done : ℕ) (left all : List FlatEvent) : Type 0 where
   pub tidy : Tidy cfg now.hyp now.machine
   pub state : flat_run cfg (flat_of cfg now) left ≡ flat_run cfg (flat_of cfg start) all
@@ -61,7 +61,7 @@ one_further cfg start now next done e left all takes running = record {
   entries = takes.entries ∙ running.entries;
 }
 
--- so many events of a schedule were taken
+-- this many events of a schedule were taken
 abbrev pub IsAt : ConfigData → Place → Place → List Event → ℕ → Type 0
 IsAt cfg start now all n = IsRunning cfg start now n (map flat_event (drop n all)) (map flat_event all)
 

@@ -364,7 +364,7 @@ module _ (cfg : ConfigData) (old mid : HypData) (before between : Machine) (v : 
         (after-keeps table access.place access.width write));
   }
 
-  -- and the core goes on behind it
+  -- and the core goes on after it
   pub left_answered : (new : HypData) (after_it : Machine) (value : ℕ) → new.powers ≡ mid.powers
       → new.tables ≡ slice_set mid.tables v (after table access.place access.width write)
       → value ≡ answer table access.place access.width write

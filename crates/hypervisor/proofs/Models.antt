@@ -82,7 +82,7 @@ placed_on_board cfg shape (event.Input port byte) well_formed shaped placed =
     ap (λ (s : ShapeData). list_any (λ spot. spot.id == port) s.ports) shaped ∙ numbers_alike cfg cfg.platform.ports port
     ∙ given_is_there cfg port well_formed placed
 
--- so many powers are left by what the hypervisor does
+-- this many powers are left by what the hypervisor does
 off_length : (cores : List ℕ) (powers : List Power) → length (all_off cores powers) ≡ length powers
 off_length [] powers = refl
 off_length (core ∷ cores) powers = off_length cores (slice_set powers core Off) ∙ length-set powers core Off

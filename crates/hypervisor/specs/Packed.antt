@@ -13,7 +13,7 @@ use Rattle.mpu_packer.specs.Runs.{packing_of}
 abbrev pub packings : ConfigData → List (List Region)
 packings cfg = map (λ place. packing_of cfg place.0) (enumerate_from 0 cfg.platform.cores)
 
--- the entries of a core that has so many: its packing, and zero entries after it
+-- the entries of a core that has this many: its packing, and zero entries after it
 abbrev pub filled : ℕ → List Region → List Region
 filled count packed = packed ++ replicate (count - length packed) no_region
 

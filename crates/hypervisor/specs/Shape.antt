@@ -10,7 +10,7 @@ use Rattle.bao_config.specs.Data.{ConfigData, VmData}
 use Rattle.bao_wellformed.specs.Map.{owner, has_port}
 use Rattle.vm_model.specs.Cores.{affinity_of}
 
--- a core of so many entries
+-- a core of this many entries
 abbrev pub core_place : ConfigData → ℕ → ℕ → CorePlace
 core_place cfg core entries = record { entries = entries; affinity = affinity_of (owner cfg core) core }
 
@@ -29,7 +29,7 @@ abbrev pub used_ranges : ConfigData → List ByteRange
 used_ranges cfg =
     flat_map (λ vm. map (λ region. region.range) vm.regions) cfg.vms ++ map (λ shmem. shmem.range) cfg.shmems
 
--- The shape of the board for a configuration and so many events: its banks, cores and ports in the configuration's order, and
+-- The shape of the board for a configuration and this many events: its banks, cores and ports in the configuration's order, and
 -- the memory in use.
 abbrev pub shape_of : ConfigData → ℕ → ShapeData
 shape_of cfg events =

@@ -31,7 +31,7 @@ use vgic_table::IrqTable;
 
 impl Hyp {
     /// Answers an access of a core from the interrupts of its VM, once the list registers of all the VM's cores are back in
-    /// the table. The core has what it loads, and goes on behind the access.
+    /// the table. The core has what it loads, and goes on after the access.
     pub(crate) fn answer_access<B: Board>(
         &mut self,
         config: &Config,
@@ -68,7 +68,7 @@ impl Hyp {
         }
     }
 
-    /// Makes the id that a core sends pending at each core of its VM that is a target. The core goes on behind the write that
+    /// Makes the id that a core sends pending at each core of its VM that is a target. The core goes on after the write that
     /// sent it.
     pub(crate) fn send<B: Board>(&mut self, config: &Config, board: &mut B, seat: Seat, esr: u64)
         requires well_formed { IsWellFormed (config_data config.now) }
@@ -137,7 +137,7 @@ fn stored_value<B: Board>(board: &B, core: u8, access: FrameAccess) -> Option<u6
     Some(low(register(board, core, access.register), 8 * access.width))
 }
 
-/// Gives a core what its access loads, if it is a load, and lets it go on behind the access.
+/// Gives a core what its access loads, if it is a load, and lets it go on after the access.
 fn finish<B: Board>(board: &mut B, core: u8, access: FrameAccess, value: u64)
     requires fitted { (B.state board.old).fitted ≡ true }
     requires core { core < length (B.state board.old).shape.cores }

@@ -415,7 +415,7 @@ fn arguments<B: Board>(board: &B, core: u8) -> [u64; 4]
     ]
 }
 
-/// Gives a core that called its answer in X0, and lets it go on behind an SMC. One that the call turned off stays as it is.
+/// Gives a core that called its answer in X0, and lets it go on after an SMC. One that the call turned off stays as it is.
 fn answer<B: Board>(board: &mut B, core: u8, smc: bool, answer: Option<u64>)
     requires fitted { (B.state board.old).fitted ≡ true }
     requires core { core < length (B.state board.old).shape.cores }

@@ -10,7 +10,7 @@ use Rattle.mpu_packer.specs.declared.entries.Plan.{Plan}
 use Rattle.mpu_packer.specs.Packing.{entry_of}
 use Rattle.mpu_packer.specs.Runs.{core_runs}
 
--- the plan has one entry and one start for each maximal run of the core, and the core has so many entries
+-- the plan has one entry and one start for each maximal run of the core, and the core has this many entries
 pub record IsPacking (cfg : ConfigData) (core : ℕ) (plan : Plan) : Type 0 where
   pub runs : List Run
   pub maximal : AreMaximalRuns (class_of cfg core) runs

@@ -40,7 +40,7 @@ in_front at Nothing runs = runs
 in_front at Hyp runs = with_front at Hyp runs
 in_front at (Guest write exec port) runs = with_front at (Guest write exec port) runs
 
--- the runs of so many bytes from one on
+-- the runs of this many bytes from one on
 unfoldable pub runs_from : (ℕ → Class) → ℕ → ℕ → List Run
 runs_from classes at zero = []
 runs_from classes at (suc count) = in_front at (classes at) (runs_from classes (at + 1) count)

@@ -13,7 +13,7 @@ consumes_on (Some xs) (Some ys) None first second one two = absurd two
 consumes_on (Some xs) (Some ys) (Some zs) first second one two =
     one ∙ ap (λ rest. first ++ rest) two ∙ sym (append_assoc first second zs)
 
--- two reads gave at most so many bytes together
+-- two reads gave at most this many bytes together
 pub gives_twice : (n : ℕ) (old now new : Option (List ℕ)) (first second : List ℕ)
     → Consumes old now first → Consumes now new second → length first + length second ≤ n → GivesAtMost n old new
 gives_twice n old now new first second one two bound = record {

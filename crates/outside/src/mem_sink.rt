@@ -37,7 +37,7 @@ impl Model for MemSink {
 }
 
 impl MemSink {
-    /// An empty sink with room for so many bytes, whose calls of the numbers in `failing` are to fail.
+    /// An empty sink with room for this many bytes, whose calls of the numbers in `failing` are to fail.
     pub fn new(alloc: Global, room: u32, failing: Vec<u32>) -> Result<MemSink, AllocError>
         ensures { IfOk result (λ sink. sink ≡ record {
           taken = [];

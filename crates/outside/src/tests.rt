@@ -141,7 +141,7 @@ fn put<K: Sink>(sink: &mut K, bytes: &[u8]) -> Result<(), SinkFailed> {
     sink.put(bytes)
 }
 
-/// A file that is read one byte at a time, and of which only so many reads succeed.
+/// A file that is read one byte at a time, and of which only this many reads succeed.
 #[derive(Drop)]
 struct Drip {
     bytes: Vec<u8>,
@@ -261,7 +261,7 @@ fn real_files(rt: HostRuntime) -> Result<(), Fail> {
     Ok(())
 }
 
-/// A writer that takes one byte at a time, and so many in all. Then it fails, or takes nothing.
+/// A writer that takes one byte at a time, and this many in all. Then it fails, or takes nothing.
 #[derive(Drop)]
 struct Trickle {
     taken: Vec<u8>,

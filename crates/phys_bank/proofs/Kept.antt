@@ -136,7 +136,7 @@ module _ (banks : BanksData) (at n : ℕ) (s : Spot) (apart : AreApart (ranges_o
   pub number-of_none : page_at banks.pages s.entry ≡ None → 0 ≡ little_endian (bytes_from (byte_at banks) at n)
   number-of_none page = sym (nothing (byte_at banks) n at (room-below n room) (λ k lt. byte-near k lt ∙ ap (λ p. page_byte p (s.offset + k)) page))
 
--- the address behind one that was counted on
+-- the address after one that was counted on
 next_of : (at k : ℕ) → next_address ((at + k) % 2 ^ 64) ≡ (at + (k + 1)) % 2 ^ 64
 next_of at k = mod-add-mod (at + k) (2 ^ 64) 1 ∙ ap (λ n. n % 2 ^ 64) (omega arith)
 
@@ -160,7 +160,7 @@ module _ (f : ℕ → ℕ) (at k n v byte : ℕ) (some : 0 < k) (up : k ≤ n) w
 pub nothing-written : (banks : BanksData) (at : ℕ) → IsWritten banks banks at []
 nothing-written banks at = record { here = λ k lt. absurd (omega (arith, lt)); others = λ x out. refl; kept = refl }
 
--- and one byte more behind those that are written
+-- and one byte more after those that are written
 pub written-more : (old mid new : BanksData) (at n byte : ℕ) (ys zs : List ℕ) → length ys ≡ n → zs ≡ ys ++ byte ∷ [] → IsWritten old mid at ys → IsWritten mid new (at + n) (byte ∷ []) → IsWritten old new at zs
 written-more old mid new at n byte ys zs long more first last = subst (IsWritten old new at) (sym more) (record {
   here = λ k lt. here k (omega (arith, lt, longer));

@@ -1,4 +1,4 @@
--- Banks whose pages lie one behind the other.
+-- Banks whose pages lie one after the other.
 use Rattle.std.proofs.Common.{◌≡◌, ℕ, zero, suc, ◌+◌, ◌*◌, ◌/◌, ◌<◌, ◌≤◌, List, [], ◌∷◌, ◌++◌, Some, length, take, get_or, slice_get, refl, sym, ap, ◌∙◌, arith}
 use Rattle.std.proofs.lemmas.List.Sums.{sum_by-append, sum_by_more, sum_by-take-le}
 use Rattle.std.proofs.lemmas.Option.{get_or_from_slice_get}
@@ -37,7 +37,7 @@ laid-before places j i place laid lt le there =
     let is : place ≡ get_or places j place = sym (get_or_from_slice_get places j place place there) in
     omega (arith, first-at places j place laid (omega (arith, lt, le)) is, total-up_to places j place (omega (arith, lt, le)) is, total-mono places (j + 1) i (omega (arith, lt)))
 
--- one more bank behind them
+-- one more bank after them
 pub laid-more : (places : List BankPlace) (next : ℕ) (place : BankPlace) → AreLaid next places → place.first ≡ next + total_pages places → AreLaid next (places ++ place ∷ [])
 laid-more [] next place laid first = (omega (arith, first), tt)
 laid-more (p ∷ ps) next place laid first = (laid.0, laid-more ps (next + page_count p.range) place laid.1 (omega (arith, first, total-more p ps)))

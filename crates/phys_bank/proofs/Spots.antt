@@ -19,7 +19,7 @@ same_spot e = cc
 true_is_not_false : {A : Type 0} {b : Bool} → b ≡ true → b ≡ false → A
 true_is_not_false t f = cc
 
--- the first bank has the byte, or the ones behind it decide
+-- the first bank has the byte, or the ones after it decide
 module _ (place : BankPlace) (places : List BankPlace) (at : ℕ) where
   abbrev pub Found : Spot → Type 0
   Found s = ((is_within place.range at ≡ true) × (s ≡ spot_in place at)) ⊎ ((is_within place.range at ≡ false) × (spot_of places at ≡ Some s))
@@ -103,7 +103,7 @@ same-page (place ∷ places) next a b s t laid e f same = elim (found place plac
 pub not_in_both : (one other : ByteRange) (at : ℕ) → overlaps one other ≡ false → is_within other at ≡ true → is_within one at ≡ false
 not_in_both one other at apart is = grind (arith, nat_tests)
 
--- the first range is apart from those behind it, which are apart from each other
+-- the first range is apart from those after it, which are apart from each other
 abbrev IsApart : ByteRange → List ByteRange → Type 0
 IsApart range ranges = All (λ other. IsFalse (overlaps range other)) ranges
 
@@ -134,7 +134,7 @@ room-page k from size room r lt = grind (arith, r, lt)
 room-bank : (k from size room : ℕ) → room ≡ min (4096 - from % 4096) (size - from) → k < room → k < size - from
 room-bank k from size room r lt = grind (arith, r, lt)
 
--- the bytes that a spot has room for lie in its page, one behind the other
+-- the bytes that a spot has room for lie in its page, one after the other
 abbrev pub Follows : List BankPlace → ℕ → ℕ → Spot → Type 0
 Follows places at k s = (t : Spot) × (spot_of places (at + k) ≡ Some t) × (t.entry ≡ s.entry) × (t.offset ≡ s.offset + k)
 

@@ -40,7 +40,7 @@ fn free(page: Page, alloc: Global) {
     }
 }
 
-/// So many pointers to no page.
+/// This many pointers to no page.
 fn nulls(alloc: Global, len: usize) -> Result<Vec<Page>, AllocError>
     ensures { IfOk result (λ nulls. vec_len nulls ≡ len) }
 {
@@ -72,7 +72,7 @@ fn clear(slots: &mut Slots<Page>)
 }
 
 impl Directory {
-    /// A directory of so many places, with no page.
+    /// A directory of this many places, with no page.
     pub(crate) fn new(alloc: Global, len: usize) -> Result<Directory, OutOfMemory>
         ensures { IfOk result (λ directory. directory ≡ replicate len None) }
     {

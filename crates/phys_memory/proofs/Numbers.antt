@@ -14,7 +14,7 @@ little_endian-more xs i j k v next lt le is =
     let w : v ≡ little_endian (take n (drop (suc i) xs)) = is ∙ ap little_endian rest in
     omega (arith, ap little_endian e, w)
 
--- what is left of the value after so many bytes
+-- what is left of the value after this many bytes
 abbrev pub shifted : ℕ → ℕ → ℕ
 shifted zero value = value
 shifted (suc n) value = shifted n (value / 256)
@@ -47,13 +47,13 @@ spliced-more xs ys at n m v long next lt =
     ∙ set-append_seam front (get_or xs (at + n) 0) behind v ∙ sym (append_assoc front (v ∷ []) behind)
     ∙ ap (λ zs. zs ++ behind) (append_assoc (take at xs) ys (v ∷ [])) ∙ ap (λ i. take at xs ++ (ys ++ v ∷ []) ++ drop i xs) up
 
--- the same, as a loop has it: xs was there at first, old is there before the write and new behind it
+-- the same, as a loop has it: xs was there at first, old is there before the write and new after it
 pub put_more : (xs old new ys zs : List ℕ) (at n m v : ℕ) → length ys ≡ n → m ≡ n + 1 → at + n < length xs → old ≡ take at xs ++ ys ++ drop (at + n) xs → new ≡ set old (at + n) v → zs ≡ ys ++ v ∷ []
     → new ≡ take at xs ++ zs ++ drop (at + m) xs
 put_more xs old new ys zs at n m v long next lt was is more =
     is ∙ ap (λ l. set l (at + n) v) was ∙ spliced-more xs ys at n m v long next lt ∙ ap (λ l. take at xs ++ l ++ drop (at + m) xs) (sym more)
 
--- so many bytes make a number below this power
+-- this many bytes make a number below this power
 pub below-more : (v byte n m : ℕ) → m ≡ n + 1 → v < 256 ^ n → byte < 256 → v * 256 + byte < 256 ^ m
 below-more v byte n m next lt small = let e : 256 ^ m ≡ 256 ^ n * 256 = (let up : m ≡ suc n = omega arith in ap (λ k. 256 ^ k) up ∙ pow-suc 256 n) in omega arith
 

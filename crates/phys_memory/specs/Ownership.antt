@@ -8,7 +8,7 @@ use denote.Memory.{part_at, shared_of}
 use denote.Sharing.{nothing, said, beside}
 use denote.RawPtr.{Ptr, block_ptr, null_ptr}
 
--- the type that a block of so many bytes is allocated for
+-- the type that a block of this many bytes is allocated for
 abbrev pub block_of : ℕ → Ty
 block_of n = ty_array (ty_int w8) n
 

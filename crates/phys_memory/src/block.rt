@@ -41,7 +41,7 @@ pub(crate) fn deallocate<A: Allocator>(
 {
     let Cells { marker: _ } = cells;
     let Deed { marker: _ } = deed;
-    // SAFETY: `alloc` gave the block for so many bytes, and nobody owns any of them now.
+    // SAFETY: `alloc` gave the block for this many bytes, and nobody owns any of them now.
     unsafe {
         alloc.deallocate(base.ptr, len, 1);
     }

@@ -16,7 +16,7 @@ const INNER: Region = Region {
     limit: 0x10_8001,
 };
 
-/// The bytes behind `MEMORY`, for reading alone.
+/// The bytes after `MEMORY`, for reading alone.
 const NEXT: Region = Region {
     base: 0x11_000e,
     limit: 0x11_ffc1,
@@ -131,7 +131,7 @@ fn whole_accesses(rt: HostRuntime) {
     }
 }
 
-/// Three entries of 64 bytes, each right behind the one before it; the last one is for reading alone.
+/// Three entries of 64 bytes, each right after the one before it; the last one is for reading alone.
 const THREE: [Region; 3] = [
     Region {
         base: 0x20_0004,
@@ -152,7 +152,7 @@ static OVER_THREE: [(&str, Access, u64, u8, Option<(u64, Verdict)>); 4] = [
     // shows                       access         from       bytes refused
     ("over all three",             Access::Read,  0x20_003f, 66,   None),
     ("the third one refuses",      Access::Write, 0x20_003f, 66,   Some((0x20_0080, P))),
-    ("up to behind the third",     Access::Read,  0x20_003f, 130,  Some((0x20_00c0, T))),
+    ("up to past the third",     Access::Read,  0x20_003f, 130,  Some((0x20_00c0, T))),
     ("all of them, and around",    Access::Read,  0x1f_ffff, 200,  Some((0x1f_ffff, T))),
 ];
 

@@ -1,7 +1,7 @@
 ghost use Rattle.std.specs.Prelude.{◌≡◌, IsTrue};
 ghost use Rattle.ports.specs.Registers.{is_register_width, low_bits};
 
-/// Whether a register answers accesses of so many bytes.
+/// Whether a register answers accesses of this many bytes.
 pub(crate) fn is_register_width(width: u32) -> bool
     ensures { result ≡ is_register_width width }
 {

@@ -19,7 +19,7 @@ module _ (class_of : ℕ → Class) where
       let more : 0 < run.range.size = maximal.not_empty in
       maximal.not_nothing (sym (maximal.equal run.range.base (is_within-between run.range run.range.base (omega arith) (omega arith))) ∙ nothing)
 
-  -- behind bytes of class Nothing no run begins later than another
+  -- after bytes of class Nothing no run begins later than another
   base_le : (low : ℕ) (run other : Run) → IsMaximalRun class_of run → low ≤ run.range.base →
       ((at : ℕ) → low ≤ at → at < other.range.base → class_of at ≡ Nothing) → other.range.base ≤ run.range.base
   base_le low run other maximal from nothing = by_order (cases_lt run.range.base other.range.base)
@@ -38,7 +38,7 @@ module _ (class_of : ℕ → Class) where
           absurd (another.after (maximal.equal (end other.range) (is_within-between run.range (end other.range) (omega arith) (omega arith)) ∙ class))
       by_order (inr fits) = fits
 
-  -- the runs behind bytes of class Nothing are the only ones
+  -- the runs after bytes of class Nothing are the only ones
   pub one_list : (runs others : List Run) (low : ℕ) → AreRunsFrom class_of low runs → AreRunsFrom class_of low others → runs ≡ others
   one_list [] [] low none nothing = refl
   one_list [] (other ∷ others) low none (maximal, from, nothing, rest) = absurd (something other maximal (none other.range.base from))
@@ -98,7 +98,7 @@ module _ (class_of : ℕ → Class) where
           by_order (inl early) = nothing at above early
           by_order (inr late) = between at late before
 
-  -- the bytes from `at` up to `end` have one class, and the byte behind them, if it is in the space, has another
+  -- the bytes from `at` up to `end` have one class, and the byte after them, if it is in the space, has another
   pub record IsStretch (at end : ℕ) : Type 0 where
     pub not_empty : at < end
     pub in_space : end ≤ 2 ^ 48
@@ -121,7 +121,7 @@ module _ (class_of : ℕ → Class) where
         apart = λ within byte before same. omega arith;
       }
 
-  -- a byte with the end of a stretch behind it is in the stretch
+  -- a byte with the end of a stretch after it is in the stretch
   stretch_apart : (at end : ℕ) → IsStretch at end → end < 2 ^ 48 → (byte : ℕ) → byte + 1 ≡ end → class_of byte ≢ class_of end
   stretch_apart at end stretch within byte before same =
       let more : at < end = stretch.not_empty in

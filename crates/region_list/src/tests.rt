@@ -78,7 +78,7 @@ static LAID: [(&str, &[(u64, u64, Class)], &[(u64, u64, Class)]); 24] = [
     ("a hole of one byte",     &[(0, 192, RAM), (100, 1, HOLE)],                                 &[(0, 100, RAM), (101, 91, RAM)]),
     ("its class in its midst", &[(0, 192, RAM), (64, 64, RAM)],                                  &[(0, 192, RAM)]),
     ("overlap in front",       &[(64, 128, RAM), (0, 128, HYP)],                                 &[(0, 128, HYP), (128, 64, RAM)]),
-    ("overlap behind",         &[(0, 128, RAM), (64, 128, HYP)],                                 &[(0, 64, RAM), (64, 128, HYP)]),
+    ("overlap after",         &[(0, 128, RAM), (64, 128, HYP)],                                 &[(0, 64, RAM), (64, 128, HYP)]),
     ("overlap, equal classes", &[(0, 128, RAM), (64, 128, RAM)],                                 &[(0, 192, RAM)]),
     ("over several runs",      &[(0, 64, RAM), (128, 64, HYP), (256, 64, RAM), (32, 256, HYP)],  &[(0, 32, RAM), (32, 256, HYP), (288, 32, RAM)]),
     ("holes at both ends",     &[(0, 256, RAM), (0, 64, HOLE), (192, 64, HOLE)],                 &[(64, 128, RAM)]),

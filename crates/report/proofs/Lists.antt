@@ -1,4 +1,4 @@
--- Texts of lists, element by element: what is left before an element and behind it, and behind the last.
+-- Texts of lists, element by element: what is left before an element and after it, and after the last.
 use Rattle.std.proofs.Common.{◌≡◌, ℕ, suc, ◌+◌, ◌<◌, ◌≤◌, List, [], ◌++◌, length, get_or, drop, map, refl, sym, ap, subst, ◌∙◌, add-one, arith, drop-cons}
 use Rattle.std.proofs.Math.ListN.{drop_of_length-le}
 use Rattle.std.specs.List.{flat_map}

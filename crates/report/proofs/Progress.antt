@@ -42,7 +42,7 @@ all_taken start now whole way = way.grows ∙ ap (grown start) (sym (way.splits 
 pub nothing_taken : (old : Option (List ℕ)) (text : List ℕ) → text ≡ [] → old ≡ grown old text
 nothing_taken old text empty = sym (ap (grown old) empty ∙ grown-nil old)
 
--- behind a text that was taken
+-- after a text that was taken
 pub takes_behind : {T E : Type 0} (old now new : Option (List ℕ)) (first second : List ℕ) (result : Result T E) → now ≡ grown old first
     → Takes now new second result → Takes old new (first ++ second) result
 takes_behind old now new first second (Ok value) one two = grows_on old now new first second one two

@@ -1,4 +1,4 @@
--- Memory as the report's loops go over it: groups of 16 bytes of one kind, one behind the other.
+-- Memory as the report's loops go over it: groups of 16 bytes of one kind, one after the other.
 use Rattle.std.specs.Prelude.{ℕ, zero, suc, ◌+◌, ◌≤◌, ◌⊎◌, if◌then◌else◌, List, [], ◌++◌}
 use Rattle.report.specs.Lines.{memory_line}
 use Rattle.bao_wellformed.specs.declared.map.Kind.{Kind}

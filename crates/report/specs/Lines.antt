@@ -25,7 +25,7 @@ unfoldable pub core_parked_line : ℕ → ℕ → ℕ → List ℕ
 core_parked_line j esr far =
     codes "core " ++ (decimal j ++ (codes " parked " ++ (hex 8 esr ++ (codes " " ++ (hex 16 far ++ newline)))))
 
--- a register with so many digits
+-- a register with this many digits
 unfoldable pub register_line : List ℕ → ℕ → ℕ → List ℕ
 register_line name digits value = name ++ (codes " " ++ (hex digits value ++ newline))
 

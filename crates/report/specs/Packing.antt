@@ -12,7 +12,7 @@ abbrev pub owner_name : Option VmData → List ℕ
 owner_name None = codes "-"
 owner_name (Some vm) = vm.name
 
--- `core C vm NAME runs R entries N`: a core has one entry for each of its runs, of so many that it could have
+-- `core C vm NAME runs R entries N`: a core has one entry for each of its runs, out of the number that it could have
 unfoldable pub packed_name : ℕ → List ℕ → List ℕ
 packed_name core name = codes "core " ++ (decimal core ++ (codes " vm " ++ name))
 

@@ -45,7 +45,7 @@ unfoldable pub consoles_text : (ℕ → List ℕ) → List Dev → List ℕ
 consoles_text console [] = []
 consoles_text console (dev ∷ devs) = console_text console dev ++ consoles_text console devs
 
--- so many bytes from an address on
+-- this many bytes from an address on
 unfoldable pub run_of : (ℕ → ℕ) → ℕ → ℕ → List ℕ
 run_of bytes at zero = []
 run_of bytes at (suc n) = bytes at ∷ run_of bytes (at + 1) n
@@ -65,7 +65,7 @@ unfoldable pub group_text : (ℕ → Kind) → (ℕ → ℕ) → ℕ → List �
 group_text kinds bytes at =
     if is_memory (kinds at) && not (are_zero (run_of bytes at 16)) then memory_line at (run_of bytes at 16) else []
 
--- so many groups of 16 bytes from an address on
+-- this many groups of 16 bytes from an address on
 unfoldable pub memory_text : (ℕ → Kind) → (ℕ → ℕ) → ℕ → ℕ → List ℕ
 memory_text kinds bytes zero at = []
 memory_text kinds bytes (suc n) at = group_text kinds bytes at ++ memory_text kinds bytes n (at + 16)

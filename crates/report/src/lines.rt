@@ -64,7 +64,7 @@ fn put_numbered<K: Sink>(
     sink.put(&line)
 }
 
-/// A register with so many hexadecimal digits.
+/// A register with this many hexadecimal digits.
 #[tactic(auto, unfolding(crate::specs::Lines::register_line))]
 pub fn put_register<K: Sink>(
     sink: &mut K,

@@ -234,7 +234,7 @@ fn is_memory(kind: Kind) -> bool
     }
 }
 
-/// So many groups of 16 bytes of memory from an address on, those that aren't all zero.
+/// This many groups of 16 bytes of memory from an address on, those that aren't all zero.
 #[tactic(auto, using(crate::proofs::Progress::under_way, crate::proofs::Texts::groups_go_on, crate::proofs::Texts::groups_stop, crate::proofs::Texts::groups_end))]
 fn write_groups<K: Sink, B: Board>(
     sink: &mut K,

@@ -12,7 +12,7 @@ use Rattle.schedule.proofs.Numbers.{own}
 use Rattle.schedule.proofs.Lines.{none_below_digits}
 use Rattle.schedule.proofs.Spelled.{steps}
 
--- what a slice pattern leaves behind the first byte
+-- what a slice pattern leaves after the first byte
 abbrev pub behind_first : List ℕ → List ℕ
 behind_first text = take (length text - 1) (drop 1 text)
 
@@ -20,7 +20,7 @@ at_first : (text : List ℕ) → 0 < length text → text ≡ get_or text 0 0 �
 at_first [] some = absurd (omega arith)
 at_first (first ∷ rest) some = ap (λ t. first ∷ t) (sym (take_all (length (first ∷ rest) - 1) rest (omega arith)))
 
--- and behind the first two
+-- and after the first two
 abbrev pub behind_two : List ℕ → List ℕ
 behind_two text = take (length text - 2) (drop 2 text)
 

@@ -38,7 +38,7 @@ number_whole text n h =
     slice_split_none (λ other. other == 32) text
     (no_blanks text (subst (λ t. list_all is_ascii_digit t ≡ true) (sym facts.1) (digits_decimal own n facts.0)))
 
--- the number behind the second blank is of the whole rest
+-- the number after the second blank is of the whole rest
 no_second : (kind : List ℕ) (first : Option ℕ) → BadForm ≡ entry_of kind first None
 no_second kind None = refl
 no_second kind (Some n) = refl

@@ -15,7 +15,7 @@ use Rattle.hypervisor.specs.Event.{IsPlaced, is_core, is_assigned}
 use Rattle.hypervisor.specs.declared.event.Event.{Event}
 use Rattle.hypervisor.specs.declared.event.Event.TheVariants as event
 use Rattle.schedule.specs.Rules.{event_of, broken_rule}
-use Rattle.schedule.specs.Schedule.{Events, Broken, Reached, nothing_yet, count_behind, count_after, with_line, at_end, answer_from, schedule_of}
+use Rattle.schedule.specs.Schedule.{Events, Broken, Reached, nothing_yet, count_after_event, count_after, with_line, at_end, answer_from, schedule_of}
 use Rattle.schedule.specs.Lawful.{NeverFall, IsLawful}
 use Rattle.schedule.specs.Answer.{TellsBroken, TakesLine, IsRefused}
 use Rattle.schedule.specs.declared.line.Line.{Line}
@@ -27,12 +27,12 @@ use Rattle.schedule.proofs.Cuts.{in_parts, one, some_part}
 -- the count of the last step of these events
 abbrev pub last_of : ℕ → List Event → ℕ
 last_of last [] = last
-last_of last (first ∷ events) = last_of (count_behind last first) events
+last_of last (first ∷ events) = last_of (count_after_event last first) events
 
 last_of-push : (last : ℕ) (events : List Event) (said : Event)
-    → last_of last (events ++ said ∷ []) ≡ count_behind (last_of last events) said
+    → last_of last (events ++ said ∷ []) ≡ count_after_event (last_of last events) said
 last_of-push last [] said = refl
-last_of-push last (first ∷ events) said = last_of-push (count_behind last first) events said
+last_of-push last (first ∷ events) said = last_of-push (count_after_event last first) events said
 
 -- the count of a step isn't below this one
 abbrev pub IsNotBelow : ℕ → Event → Type 0
@@ -52,7 +52,7 @@ pub record IsSoFar (cfg : ConfigData) (events : List Event) (count : ℕ) : Type
   pub last : last_of 0 events ≡ count
 
 with_event : (cfg : ConfigData) (events : List Event) (count : ℕ) (said : Event) → IsSoFar cfg events count → IsPlaced cfg said
-    → IsNotBelow count said → length events < event_limit → IsSoFar cfg (events ++ said ∷ []) (count_behind count said)
+    → IsNotBelow count said → length events < event_limit → IsSoFar cfg (events ++ said ∷ []) (count_after_event count said)
 with_event cfg events count said so placed above few =
     record {
       lawful =
@@ -61,7 +61,7 @@ with_event cfg events count said so placed above few =
             counts = never_fall-push 0 events said so.lawful.counts (subst (λ n. IsNotBelow n said) (sym so.last) above);
             few = omega (arith, few, length-append events (said ∷ []));
           };
-      last = last_of-push 0 events said ∙ ap (λ n. count_behind n said) so.last;
+      last = last_of-push 0 events said ∙ ap (λ n. count_after_event n said) so.last;
     }
 
 -- a step, and an input, that break no rule
@@ -115,7 +115,7 @@ begins cfg bytes =
           };
     }
 
--- the first line decides, where something stands behind it
+-- the first line decides, where something stands after it
 next_line : (cfg : ConfigData) (reached : Reached) (line : List ℕ) (said : Line) (more : List (List ℕ)) → said ≡ line_of line
     → 0 < length more → answer_from cfg reached (line ∷ more)
     ≡ unless_broken (Broken (reached.lines + 1)) (broken_rule cfg reached.count (length reached.events) said)

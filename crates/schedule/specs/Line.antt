@@ -33,7 +33,7 @@ unfoldable pub line_of : List ℕ → Line
 line_of [] = NoEvent
 line_of (first ∷ rest) = if first == number_sign then NoEvent else parts_of (first ∷ rest)
 
--- For private clauses: the first line of the text, which is ended by LF, says this, and this stands behind that end.
+-- For private clauses: the first line of the text, which is ended by LF, says this, and this stands after that end.
 pub record BeginsWithLine (text : List ℕ) (said : Line) (behind : List ℕ) : Type 0 where
   pub line : List ℕ
   pub cut : IsCut line_feed text line behind

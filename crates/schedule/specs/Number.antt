@@ -25,7 +25,7 @@ is_padded [] = false
 is_padded (digit ∷ []) = false
 is_padded (first ∷ second ∷ others) = first == zero_digit
 
--- For private clauses: the text begins with this number, as it is written, and this stands behind it.
+-- For private clauses: the text begins with this number, as it is written, and this stands after it.
 pub record BeginsWithNumber (text : List ℕ) (n : ℕ) (behind : List ℕ) : Type 0 where
   pub fits : n < 2 ^ 64
   pub written : text ≡ decimal n ++ behind

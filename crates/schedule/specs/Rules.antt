@@ -48,7 +48,7 @@ abbrev pub is_past_limit : ℕ → Option Event → Bool
 is_past_limit number None = false
 is_past_limit number (Some said) = nat_le event_limit number
 
--- the first rule that a line breaks, behind so many events and a last step at this count
+-- the first rule that a line breaks, after this many events and a last step at this count
 abbrev pub broken_rule : ConfigData → ℕ → ℕ → Line → Option ℕ
 broken_rule cfg last number line =
     if has_bad_form line then Some 1

@@ -24,14 +24,14 @@ pub record Reached : Type 0 where
 abbrev pub nothing_yet : Reached
 nothing_yet = record { events = []; count = 0; lines = 0 }
 
--- the count of the last step, behind this event
-abbrev pub count_behind : ℕ → Event → ℕ
-count_behind last (Step core count) = count
-count_behind last (Input port byte) = last
+-- the count of the last step, after this event
+abbrev pub count_after_event : ℕ → Event → ℕ
+count_after_event last (Step core count) = count
+count_after_event last (Input port byte) = last
 
 abbrev pub count_after : ℕ → Option Event → ℕ
 count_after last None = last
-count_after last (Some event) = count_behind last event
+count_after last (Some event) = count_after_event last event
 
 -- one line further
 abbrev pub with_line : Line → Reached → Reached
@@ -42,12 +42,12 @@ with_line line reached =
       lines = reached.lines + 1;
     }
 
--- what is behind the last end of a line must be nothing, else it is a line of no form
+-- what is after the last end of a line must be nothing, else it is a line of no form
 abbrev pub at_end : Reached → List ℕ → ScheduleAnswer
 at_end reached [] = Events reached.events
 at_end reached (first ∷ rest) = Broken (reached.lines + 1) 1
 
--- what the lines from here on give; the last part is what stands behind the last LF
+-- what the lines from here on give; the last part is what stands after the last LF
 unfoldable pub answer_from : ConfigData → Reached → List (List ℕ) → ScheduleAnswer
 answer_from cfg reached [] = Events reached.events
 answer_from cfg reached (behind ∷ []) = at_end reached behind

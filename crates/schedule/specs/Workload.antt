@@ -12,7 +12,7 @@ use Rattle.bao_config.specs.Data.{ConfigData, PlatformData, VmData}
 use Rattle.hypervisor.specs.declared.event.Event.{Event}
 use Rattle.hypervisor.specs.declared.event.Event.TheVariants.{Step, Input}
 
--- the state behind one more draw, and behind so many draws from its beginning
+-- the state after one more draw, and after this many draws from its beginning
 abbrev pub next_state : ℕ → ℕ
 next_state s = (s * 6364136223846793005 + 1442695040888963407) % 2 ^ 64
 
@@ -79,7 +79,7 @@ workload_config n = config_of (core_count n)
 
 -- The program of a VM. Word by word, it
 --   0, 1  points X1 at its port
---   2     points X2 behind its room
+--   2     points X2 after its room
 --   3     begins with the number a in X0
 --   4     adds b to it
 --   5     keeps bits 3 to 11 of X0 in X4
@@ -118,7 +118,7 @@ abbrev pub event_with : (count number r : ℕ) → Event
 event_with count number r =
     if r % 16 == 15 then Input (r / 16 % count) (r / 64 % 256) else Step (r / 16 % count) number
 
--- the draws for the events come behind those for the images
+-- the draws for the events come after those for the images
 abbrev pub event_at : ℕ → ℕ → Event
 event_at n number = event_with (core_count n) number (draws n (2 * core_count n + number))
 

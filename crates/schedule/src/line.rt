@@ -43,7 +43,7 @@ fn read_parts(text: &[u8]) -> Line
     read_numbers(kind, behind)
 }
 
-/// Reads what stands behind the first blank.
+/// Reads what stands after the first blank.
 #[tactic(auto, using(crate::proofs::Lines::two_parts, crate::proofs::Lines::three_parts))]
 fn read_numbers(kind: &[u8], behind: &[u8]) -> Line
     ensures { result ≡ entry_in (kind.now ∷ parts 32 behind.now) }
@@ -71,7 +71,7 @@ fn entry(kind: &[u8], first: Option<u64>, second: Option<u64>) -> Line
     }
 }
 
-/// What the first line of a text says, and what stands behind that line, where there is one.
+/// What the first line of a text says, and what stands after that line, where there is one.
 #[inline(always)]
 pub(crate) fn next_line(text: &[u8]) -> Option<(Line, &[u8])>
     ensures { MatchOption result (IsWhole 10 text.now) (λ next. BeginsWithLine text.now next.0 next.1.now) }
@@ -83,7 +83,7 @@ pub(crate) fn next_line(text: &[u8]) -> Option<(Line, &[u8])>
     Some((read_line(line), behind))
 }
 
-/// The step that the first line of a text says, and what stands behind that line, where the text begins with one. Most
+/// The step that the first line of a text says, and what stands after that line, where the text begins with one. Most
 /// lines are steps, and this reads one in a single pass.
 #[inline(always)]
 fn step_at_start(text: &[u8]) -> Option<(Line, &[u8])>
@@ -103,7 +103,7 @@ fn step_at_start(text: &[u8]) -> Option<(Line, &[u8])>
     Some((Line::Step { core, count }, rest))
 }
 
-/// The number that a text begins with, and what stands behind it.
+/// The number that a text begins with, and what stands after it.
 #[inline(always)]
 fn leading_number(text: &[u8]) -> Option<(u64, &[u8])>
     ensures { IfSome result (λ number. BeginsWithNumber text.now number.0 number.1.now) }

@@ -3,7 +3,7 @@ ghost use Rattle.std.specs.Prelude.{◌≡◌, ◌+◌, ◌<◌, ◌^◌, nat_le
 ghost use Rattle.bao_config.specs.Config.{config_data};
 ghost use Rattle.schedule.specs.Rules.{event_of, broken_rule, unless_broken};
 ghost use Rattle.schedule.specs.Answer.{reached_by, TakesLine, IsRefused};
-ghost use Rattle.schedule.specs.Schedule.{count_behind};
+ghost use Rattle.schedule.specs.Schedule.{count_after_event};
 ghost use Rattle.bao_types.specs.Shape.{event_limit};
 
 use crate::error::ScheduleError;
@@ -53,7 +53,7 @@ impl Progress {
     }
 }
 
-/// The event of a line that breaks no rule, behind so many events and a last step at this count; else the first rule
+/// The event of a line that breaks no rule, after this many events and a last step at this count; else the first rule
 /// that it breaks.
 fn judge(config: &Config, last: u64, number: usize, line: Line) -> Result<Option<Event>, u8>
     ensures { result ≡ unless_broken (broken_rule (config_data config.now) last number line) (event_of line) }
@@ -73,7 +73,7 @@ fn judge(config: &Config, last: u64, number: usize, line: Line) -> Result<Option
     }
 }
 
-/// The event, where a board takes it behind so many others.
+/// The event, where a board takes it after this many others.
 fn within_limit(number: usize, event: Event) -> Result<Option<Event>, u8>
     ensures { result ≡ (if nat_le event_limit number then Err 5 else Ok (Some event)) }
 {
@@ -84,9 +84,9 @@ fn within_limit(number: usize, event: Event) -> Result<Option<Event>, u8>
     }
 }
 
-/// The count of the last step, behind this event.
+/// The count of the last step, after this event.
 fn count_after(last: u64, event: Event) -> u64
-    ensures { result ≡ count_behind last event }
+    ensures { result ≡ count_after_event last event }
 {
     match event {
         Event::Step { core: _, count } => count,

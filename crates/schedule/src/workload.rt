@@ -48,7 +48,7 @@ pub fn make_workload(alloc: Global, n: u32) -> Result<Workload, OutOfMemory>
     })
 }
 
-/// The events of so many cores.
+/// The events of this many cores.
 fn make_events(alloc: Global, numbers: &mut Numbers, count: u8) -> Result<Vec<Event>, OutOfMemory>
     requires few { 2 ≤ count }
     requires many { count ≤ 4 }

@@ -32,7 +32,7 @@ const MEMORY_SIZE: u64 = 0x1_0000;
 /// How many of them are for its image.
 const ROOM: u64 = 0x1000;
 
-/// The configuration of so many VMs, each with a core and a port of its own.
+/// The configuration of this many VMs, each with a core and a port of its own.
 pub(crate) fn make_config(alloc: Global, count: u8) -> Result<Config, OutOfMemory>
     requires few { 2 ≤ count }
     requires many { count ≤ 4 }
@@ -57,7 +57,7 @@ pub(crate) fn make_config(alloc: Global, count: u8) -> Result<Config, OutOfMemor
     })
 }
 
-/// A platform with so many cores and ports.
+/// A platform with this many cores and ports.
 fn make_platform(count: u8) -> Platform
     requires { count ≤ 4 }
     ensures { platform_data result ≡ platform_of count }

@@ -6,7 +6,7 @@ use crate::generator::Numbers;
 use bao_types::OutOfMemory;
 use std::alloc::Global;
 
-/// The images of so many VMs.
+/// The images of this many VMs.
 pub(crate) fn make_images(
     alloc: Global,
     numbers: &mut Numbers,
@@ -53,7 +53,7 @@ fn words_with(v: u32, first: u32, step: u32) -> [u32; 9]
     [
         0xd2b3_8121, // movz x1, 0x9c09, lsl 16
         0xf280_0001 + 2048 * v, // movk x1, 64 * v
-        0x1000_7fc2, // adr x2, behind the room
+        0x1000_7fc2, // adr x2, after the room
         0xd280_0000 + 32 * first, // mov x0, first
         0x9100_0000 + 1024 * step, // add x0, x0, step
         0x927d_2004, // and x4, x0, 0xff8

@@ -12,7 +12,7 @@ split : (b rest : Bool) → IsTrue (b && rest) → IsTrue b × IsTrue rest
 split true rest both = (refl, both)
 split false rest both = cc
 
--- where all of so many bytes are kept, each is, and no address wraps
+-- where all of this many bytes are kept, each is, and no address wraps
 pub kept_run : (kept : ℕ → Bool) → ((at : ℕ) → kept at ≡ true → at < 2 ^ 48) → (at n : ℕ) → IsTrue (all_from kept at n)
     → (k : ℕ) → k < n → IsTrue (kept (at + k))
 kept_run kept low at zero all k lt = absurd (omega (arith, lt))

@@ -34,7 +34,7 @@ pub record AreAccessed (accesses : Places → List PortAccess) (before after : D
 abbrev pub states_of : List PortState → PortStates
 states_of states port = slice_index_or states port (new_port Console)
 
--- of ports that have room for so many writes and inputs each: for how many all have it, of as many as a board takes at most
+-- of ports that have room for this many writes and inputs each: for how many all have it, of as many as a board takes at most
 abbrev pub least_room : List ℕ → ℕ
 least_room [] = 2 * event_limit
 least_room (spare ∷ spares) = min spare (least_room spares)

@@ -29,7 +29,7 @@ pub(crate) trait Devices {
     // for how many writes and inputs each port has room, of as many as a board takes at most
     ghost room: { Self → ℕ };
 
-    /// Whether none of so many bytes is a port's.
+    /// Whether none of this many bytes is a port's.
     fn has_no_port(&self, at: u64, count: u8) -> bool
         ensures { result ≡ has_no_port (places_in (view self.now)) at count };
 
@@ -195,7 +195,7 @@ impl BoxedPorts {
     }
 }
 
-/// Whether none of so many bytes is a port's, byte by byte.
+/// Whether none of this many bytes is a port's, byte by byte.
 #[inline(never)]
 fn has_no_port_bytewise(spots: &[PortSpot], at: u64, count: u8) -> bool
     requires numbers { All (λ spot. spot.id < port_count) spots.now }

@@ -59,7 +59,7 @@ impl Gap {
         }
     }
 
-    /// Whether so many bytes from `at` on and the one after them lie in the gap.
+    /// Whether this many bytes from `at` on and the one after them lie in the gap.
     #[inline(always)]
     pub fn has_all(&self, at: u64, count: u8) -> bool
         ensures value { result ≡ (nat_le self.now.first at && nat_le (at + count) self.now.last) }

@@ -11,7 +11,7 @@ use board::Fault;
 use pmsa_stage1::{is_on, judge1};
 use pmsa_table::Table;
 
-/// The first byte that a stage refuses, of so many from `at` on. Addresses wrap at 2^64.
+/// The first byte that a stage refuses, of this many from `at` on. Addresses wrap at 2^64.
 #[inline(always)]
 pub(crate) fn first_fault(
     core: &Core,
@@ -29,7 +29,7 @@ pub(crate) fn first_fault(
     first_of(core, table, access, at, count)
 }
 
-/// Whether one look at the last hit tells that no stage refuses one of so many bytes from `at` on: the first stage is off, and
+/// Whether one look at the last hit tells that no stage refuses one of this many bytes from `at` on: the first stage is off, and
 /// the second allows all of them. False says nothing.
 #[tactic(auto, using(crate::proofs::Judged::none_by_second))]
 #[inline(always)]

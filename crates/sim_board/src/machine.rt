@@ -148,7 +148,7 @@ fn zero_tables(alloc: Global, places: &[CorePlace]) -> Result<Vec<Table>, AllocE
         .collect(alloc)
 }
 
-/// The table of so many zero entries.
+/// The table of this many zero entries.
 fn zero_table(count: u8) -> Table
     requires { count ≤ 32 }
     ensures { result ≡ replicate count no_region }
@@ -156,7 +156,7 @@ fn zero_table(count: u8) -> Table
     Table::of(&zeros(count))
 }
 
-/// So many zero entries.
+/// This many zero entries.
 fn zeros(count: u8) -> ArrayVec<Region, 32>
     requires { count ≤ 32 }
     ensures { result ≡ record { items = replicate count no_region } }

@@ -217,7 +217,7 @@ fn execute<D: Devices>(
             execute_store(core, memory, devices, table, &request)
         }
         Need::Raise { esr, back } => raise(core, esr, None, back),
-        Need::Leave { esr, behind } => leave(core, esr, behind),
+        Need::Leave { esr, past } => leave(core, esr, past),
     }
 }
 
@@ -455,11 +455,11 @@ fn store_port<D: Devices>(
 }
 
 /// Leaves an exception to EL2 that is no abort, with PC after the instruction or at it.
-fn leave(core: &mut Core, esr: u64, behind: bool) -> Exit
-    ensures core { core.new ≡ (if behind then advanced core.old else core.old) }
+fn leave(core: &mut Core, esr: u64, past: bool) -> Exit
+    ensures core { core.new ≡ (if past then advanced core.old else core.old) }
     ensures exit { result ≡ Exit.Sync esr 0 }
 {
-    if behind {
+    if past {
         core.pc = core.pc.wrapping_add(4);
     }
     Exit::Sync { esr, far: 0 }

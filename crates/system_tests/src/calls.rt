@@ -161,7 +161,8 @@ static FIRST_OF_TWO: [(&str, &[u32], &str); 5] = [
 ];
 
 /// What the second VM shows of its core after a step of `SEVEN`.
-static SECOND: &str = "vm b\ncore 0 on\npc 0000000000140004\npstate 000003c5\nx0 0000000000000007\n";
+static SECOND: &str =
+    "vm b\ncore 0 on\npc 0000000000140004\npstate 000003c5\nx0 0000000000000007\n";
 
 fn cores_of_two(alloc: Global, words: &[u32]) -> Result<String, Fail> {
     let config = two_vms(alloc)?;

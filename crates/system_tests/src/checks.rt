@@ -16,7 +16,7 @@ type Row = (&'static str, &'static [Change], &'static str);
 const ONE_WITHIN: &str =
     "regions = [{ base = 0x100000, size = 0x10000, access = \"rwx\" }, { base = 0x100000, size = 0x1000, access = \"rx\" }]\n";
 
-/// Two regions of the same access, one behind the other.
+/// Two regions of the same access, one after the other.
 const TWO_HALVES: &str =
     "regions = [{ base = 0x100000, size = 0x8000, access = \"rwx\" }, { base = 0x108000, size = 0x8000, access = \"rwx\" }]\n";
 

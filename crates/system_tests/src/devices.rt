@@ -34,7 +34,7 @@ const TWO_SCRATCH: &[Change] = &[
     ),
 ];
 
-/// A scratch port right behind a region.
+/// A scratch port right after a region.
 const BEHIND_MEMORY: &[Change] = &[
     (PORTS, "ports = [{ id = 8, base = 0x200000, spi = 32 }]"),
     ("port = 0, irq", "port = 8, irq"),
@@ -139,7 +139,7 @@ end b
 done
 ";
 
-/// In turn, one behind the other, and with inputs to each console that nobody reads.
+/// In turn, one after the other, and with inputs to each console that nobody reads.
 static TURNS: [&str; 3] = [
     "s 0 0\ns 1 1\ns 0 2\ns 1 3\ns 0 4\ns 1 5\ns 0 6\ns 1 7\ns 0 8\ns 1 9\ns 0 10\ns 1 11\n",
     "s 1 0\ns 1 0\ns 1 0\ns 1 0\ns 1 0\ns 1 0\ns 0 0\ns 0 0\ns 0 0\ns 0 0\ns 0 0\ns 0 0\n",

@@ -123,7 +123,7 @@ devs = [{ port = 1, irq = 40 }]
 ipcs = [{ shmem = 0, access = \"rw\", irqs = [50] }]
 ";
 
-/// Puts a message into the window, and a flag behind it.
+/// Puts a message into the window, and a flag after it.
 #[rattlefmt::skip]
 static SENDER: [u32; 12] = [
     0xd2a0_0301, 0x1000_0122, 0xd280_0003, 0x3863_6840, 0x3823_6820, 0x9100_0463,

@@ -85,7 +85,7 @@ m 0000000000100000 a00080d2000000140000000000000000
 end a
 done
 "),
-    ("the hypervisor behind the VM", &[(HYPERVISOR, "[hypervisor]\nbase = 0x110000\nsize = 0xf0000\n")], AS_EVER),
+    ("the hypervisor after the VM", &[(HYPERVISOR, "[hypervisor]\nbase = 0x110000\nsize = 0xf0000\n")], AS_EVER),
     ("the port at another place", &[("base = 0x9c090000", "base = 0x200000")], AS_EVER),
     ("another port", &[("id = 0", "id = 7"), ("port = 0", "port = 7")],
         "status 0 entered 3 calls 3 faults 0
@@ -190,7 +190,7 @@ static STORES: [Row; 8] = [
         &[(REGIONS, "regions = [{ base = 0x100000, size = 0x8000, access = \"rwx\" }, { base = 0x108000, size = 0x1000, access = \"rx\" }]\n")],
         ONLY_READ),
     ("a guard", &[(DEVS, GUARD)], NO_MEMORY),
-    ("a guard behind", &[(DEVS, GUARD_BEHIND)], STORED),
+    ("a guard after", &[(DEVS, GUARD_BEHIND)], STORED),
     ("no window on shared memory",
         &[SHMEM, ("base = 0x180000", "base = 0x108000"), ("size = 0x10000, access", "size = 0x8000, access")],
         NO_MEMORY),

@@ -106,7 +106,7 @@ pub(crate) static PLACE_AND_NUMBER: [u32; 6] = [
     0xf2e2_2440,
 ];
 
-/// Behind `PLACE_AND_NUMBER`, with the steps beyond it.
+/// After `PLACE_AND_NUMBER`, with the steps beyond it.
 #[rattlefmt::skip]
 static LOADS_AND_STORES: [Program; 27] = [
     // shows                          words                                          steps  lines of the report
@@ -158,7 +158,7 @@ fn loads_and_stores(rt: HostRuntime) -> Result<(), Fail> {
 /// Puts the address of the distributor into X1, and of a register of the redistributor's second frame into X4.
 static FRAMES: [u32; 2] = [0xd2b5_e001, 0xd2b5_e224];
 
-/// Behind `FRAMES`, with the steps beyond it.
+/// After `FRAMES`, with the steps beyond it.
 #[rattlefmt::skip]
 static CONTROLLER: [Program; 11] = [
     // shows                          words                                                     steps  lines of the report

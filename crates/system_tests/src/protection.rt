@@ -12,7 +12,7 @@ static PARKED: [Program; 16] = [
     // shows                           words                               steps  line of the report
     ("the vectors of a system call",   &[0xd400_0001],                           2, ["core 0 parked 8200000c 0000000000000200", ""]),
     ("eret to the hypervisor's",       &[0xd69f_03e0],                           2, ["core 0 parked 8200000c 0000000000000000", "pstate 00000000"]),
-    ("zeros behind the program",       &[0xd280_00a0],                           3, ["core 0 parked 8200000c 0000000000000200", ""]),
+    ("zeros after the program",       &[0xd280_00a0],                           3, ["core 0 parked 8200000c 0000000000000200", ""]),
     ("a fetch outside the memory",     &[0x17ff_ffff],                           2, ["core 0 parked 82000004 00000000000ffffc", "pc 00000000000ffffc"]),
     ("a fetch from a half word",       &[0xd280_0041, 0xf2a0_0201, 0xd61f_0020], 5, ["core 0 parked 8200000c 0000000000000200", "far_el1 0000000000100002"]),
     ("a fetch from the last word",     &[0x9280_0061, 0xd61f_0020],              3, ["core 0 parked 82000004 fffffffffffffffc", ""]),
@@ -77,7 +77,7 @@ static REGION: [u32; 10] = [
     0xd280_0024, 0xf2a0_0044, 0xd518_1004, 0xd288_0005, 0xf2a0_0205, // movz x4, movk x4, msr sctlr, movz x5, movk x5
 ];
 
-/// At EL1: what a row shows, `movz x1` of the low half, and the words behind [`REGION`].
+/// At EL1: what a row shows, `movz x1` of the low half, and the words after [`REGION`].
 type Access = (&'static str, u32, &'static [u32], [&'static str; 2]);
 
 #[rattlefmt::skip]
@@ -100,7 +100,7 @@ static AT_EL1: [Access; 13] = [
                                                                        ["esr_el1 0000000086000004", "far_el1 0000000000100034"]),
 ];
 
-/// Two regions over 0x104000, M and BR, and a load from there; the second region is set by the word behind `TWICE`.
+/// Two regions over 0x104000, M and BR, and a load from there; the second region is set by the word after `TWICE`.
 #[rattlefmt::skip]
 static TWICE: [u32; 9] = [
     0xd288_0081, 0xf2a0_0201, 0xd289_f822, 0xf2a0_0202, 0xd518_6801, 0xd518_6822, 0xd280_0023, 0xd518_6223, 0xd518_6801,
@@ -139,7 +139,7 @@ static BOTH_STAGES: [Program; 4] = [
     ("the first refuses first", &[0xd29e_0101, 0xf2a0_0201, 0xd29f_f822, 0xf2a0_0202, 0xd518_6801, 0xd518_6822,
         0xd280_0024, 0xf2a0_0044, 0xd518_1004, 0xd29f_ff85, 0xf2a0_0205, 0xf900_00a0],
         12, ["esr_el1 000000009600004c", "far_el1 000000000010fffc"]),
-    // Two regions over 64 bytes at an end of the memory, so that the first stage refuses a load too; the program goes on behind
+    // Two regions over 64 bytes at an end of the memory, so that the first stage refuses a load too; the program goes on after
     // those at the begin.
     ("the second refuses a load first", &[0x1400_0010, 0, 0, 0, 0, 0, 0, 0, 0, 0, 0, 0, 0, 0, 0, 0, 0xd280_0081, 0xf2a0_0201,
         0xd280_0022, 0xf2a0_0202, 0xd518_6801, 0xd518_6822, 0xd280_0023, 0xd518_6223, 0xd518_6801, 0xd518_6822,
@@ -151,14 +151,14 @@ static BOTH_STAGES: [Program; 4] = [
         16, ["esr_el1 0000000096000004", "far_el1 000000000010fffc"]),
 ];
 
-/// Behind the words of X1 and [`REGION`] but the last two: a region over the program with AP 11, and at EL0 an access to X5.
+/// After the words of X1 and [`REGION`] but the last two: a region over the program with AP 11, and at EL0 an access to X5.
 #[rattlefmt::skip]
 static TO_EL0: [u32; 11] = [
     0xd280_0023, 0xd518_6223, 0xd280_0186, 0xf2a0_0206, 0xd281_f827, 0xf2a0_0207, 0xd518_6806, 0xd518_6827, // region 1
     0x1000_0068, 0xd518_4028, 0xd69f_03e0, // adr x8, msr elr_el1, eret
 ];
 
-/// At EL0: what a row shows, `movz x1` of the low half, and the access behind [`TO_EL0`].
+/// At EL0: what a row shows, `movz x1` of the low half, and the access after [`TO_EL0`].
 #[rattlefmt::skip]
 static AT_EL0: [Access; 11] = [
     // shows               movz x1      access          lines of the report

@@ -42,7 +42,7 @@ pub(crate) const REGIONS: &str =
 
 pub(crate) const DEVS: &str = "devs = [{ port = 0, irq = 40 }]\n";
 
-/// What makes the sample one whose VM has a window: shared memory, and an ipc behind the devs.
+/// What makes the sample one whose VM has a window: shared memory, and an ipc after the devs.
 pub(crate) const SHMEM: Change = (
     "[[vm]]\n",
     "[[shmem]]\nbase = 0x180000\nsize = 0x1000\nevents = 2\n[[vm]]\n",

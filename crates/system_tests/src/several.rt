@@ -140,7 +140,7 @@ fn first_section(told: &str) -> &str {
 /// Images of the second VM and schedules, in all of which core 0 takes the same steps at the same counts.
 #[rattlefmt::skip]
 static OTHERS: [(&str, &[u32], &str); 5] = [
-    ("the other behind it",           &SEVEN,   "s 0 1\ns 0 2\ns 0 7\ns 1 7\ns 1 8\n"),
+    ("the other after it",           &SEVEN,   "s 0 1\ns 0 2\ns 0 7\ns 1 7\ns 1 8\n"),
     ("the other before it",           &SEVEN,   "s 1 0\ns 1 0\ns 0 1\ns 0 2\ns 0 7\n"),
     ("in turn with one that stores",  &FILLING, "s 1 0\ns 0 1\ns 1 1\ns 0 2\ns 1 3\ns 1 4\ns 1 5\ns 1 6\ns 0 7\n"),
     ("the other never runs",          &FILLING, "s 0 1\ns 0 2\ns 0 7\n"),
@@ -173,7 +173,7 @@ static STORING: [u32; 7] = [
     0xd28e_f100, 0xf2aa_acc0, 0xf2c6_6880, 0xf2e2_2440, 0xd2a0_0301, 0xf281_ff81, 0xf900_0020,
 ];
 
-/// Memory of the first VM behind its window.
+/// Memory of the first VM after its window.
 const BEHIND: Change = (
     "regions = [{ base = 0x100000, size = 0x10000, access = \"rwx\" }]\n",
     "regions = [{ base = 0x100000, size = 0x10000, access = \"rwx\" }, { base = 0x181000, size = 0x1000, access = \"rw\" }]\n",
@@ -444,7 +444,8 @@ end vm#
 ";
 
 /// The registers of the first.
-static RANG: &str = "pc 0000000000100018\npstate 000003c5\nx0 0000000000000007\nx1 0000000000190000\n";
+static RANG: &str =
+    "pc 0000000000100018\npstate 000003c5\nx0 0000000000000007\nx1 0000000000190000\n";
 
 /// Those of each other.
 static WAITS: &str = "pc 00000000001#0000\npstate 000003c5\n";

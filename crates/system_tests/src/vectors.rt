@@ -6,7 +6,7 @@ use std::alloc::Global;
 use std::process::Abort;
 use std::test::Fail;
 
-/// Runs a program for so many steps, and tells what it left.
+/// Runs a program for this many steps, and tells what it left.
 fn run(alloc: Global, image: &[u8], count: usize) -> Result<String, Fail> {
     let schedule = steps(alloc, count)?;
     let mut shelf = sample_shelf(alloc, image, &schedule)?;
@@ -37,10 +37,10 @@ done
 /// `adr x2` of the vectors at 0x100800, `msr vbar_el1, x2` and `msr spsr_el1, x0`.
 static BEFORE: [u32; 3] = [0x1000_3FC2, 0xD518_C002, 0xD518_4000];
 
-/// `adr x1` of the word behind the return.
+/// `adr x1` of the word after the return.
 const TO_THE_WORD: u32 = 0x1000_0061;
 
-/// The same, two bytes behind it.
+/// The same, two bytes after it.
 const BEHIND_THE_WORD: u32 = 0x5000_0061;
 
 /// `msr elr_el1, x1` and `eret`; the next word is at 0x100020.
@@ -154,7 +154,7 @@ const CALL: [u32; 7] = [
     0x1000_4002, 0xD518_C002, 0xD518_401F, 0x1000_0061, 0xD518_4021, 0xD69F_03E0, 0xD400_00A1,
 ];
 
-/// A program, so many steps of it, and lines of its report; an empty one is none.
+/// A program, this many steps of it, and lines of its report; an empty one is none.
 type Returns = (&'static str, &'static [u32], usize, [&'static str; 5]);
 
 /// An illegal return stays at EL1 with IL set, and the next step takes the exception.
@@ -162,7 +162,7 @@ type Returns = (&'static str, &'static [u32], usize, [&'static str; 5]);
 static RETURNS: [Returns; 3] = [
     ("an illegal return",    &TO_EL2, 5,
         ["pc 0000000000100000", "pstate 00100005", "elr_el1 0000000000100000", "spsr_el1 0000000000000009", ""]),
-    ("the step behind it",   &TO_EL2, 6,
+    ("the step after it",   &TO_EL2, 6,
         ["pc 0000000000000200", "pstate 000003c5", "elr_el1 0000000000100000", "spsr_el1 0000000000100005",
          "esr_el1 000000003a000000"]),
     ("svc with pstate zero", &CALL,   7,

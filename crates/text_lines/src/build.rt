@@ -72,7 +72,7 @@ fn trimmed(digits: &[u8]) -> &[u8]
     rest
 }
 
-/// Appends so many hexadecimal digits of a number, the lowest ones.
+/// Appends this many hexadecimal digits of a number, the lowest ones.
 #[tactic(auto, using(numerals::proofs::Hex::hex_more, numerals::proofs::Hex::length_hex), unfolding(numerals::specs::Hex::hex))]
 pub fn push_hex<const ROOM: usize>(line: &mut ArrayVec<u8, ROOM>, digits: u32, number: u64)
     requires { length line.old.items + digits ≤ ROOM }

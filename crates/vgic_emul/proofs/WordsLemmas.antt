@@ -62,7 +62,7 @@ pub priority_bytes-more : (vm : Interrupts) (core first count : ℕ) →
 unfolding priority_bytes
 priority_bytes-more vm core first count = rw add-one refl
 
--- a byte above so many others
+-- a byte above this many others
 pub byte_above-whole : (byte above : ℕ) → byte < 4 → above < 256 → above * 2 ^ (8 * byte) % 2 ^ 64 ≡ above * 2 ^ (8 * byte)
 byte_above-whole byte above least small = shl_whole above 8 (8 * byte) 64 small (omega arith)
 

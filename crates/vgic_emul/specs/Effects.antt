@@ -15,33 +15,33 @@ pub record Effect : Type 0 where
 abbrev pub changed : Interrupts → ℕ → ℕ → (IdState → IdState) → Interrupts
 changed vm core id change = with_state vm core id (masked (change (state_of vm core id)))
 
--- the number whose bits, so many, tell which of the ids from `first` on have the flag
+-- the number whose bits, this many, tell which of the ids from `first` on have the flag
 unfoldable pub flag_bits : Interrupts → ℕ → (IdState → Bool) → ℕ → ℕ → ℕ
 flag_bits vm core flag first zero = 0
 flag_bits vm core flag first (suc count) =
     flag_bits vm core flag first count + (if flag (state_of vm core (first + count)) then 2 ^ count else 0)
 
--- those of the ids from `first` on, so many, are changed of which the value has the bit
+-- those of the ids from `first` on, this many, are changed of which the value has the bit
 unfoldable pub changed_by_bits : (ℕ → Interrupts → Interrupts) → Interrupts → ℕ → ℕ → ℕ → Interrupts
 changed_by_bits change vm value first zero = vm
 changed_by_bits change vm value first (suc count) =
     let before = changed_by_bits change vm value first count in
     if bit_at value count == 1 then change (first + count) before else before
 
--- the number whose bytes, so many, are the priorities of the ids from `first` on
+-- the number whose bytes, this many, are the priorities of the ids from `first` on
 unfoldable pub priority_bytes : Interrupts → ℕ → ℕ → ℕ → ℕ
 priority_bytes vm core first zero = 0
 priority_bytes vm core first (suc count) =
     priority_bytes vm core first count + (state_of vm core (first + count)).priority * 2 ^ (8 * count)
 
--- the ids from `first` on, so many, have the value's bytes as priorities
+-- the ids from `first` on, this many, have the value's bytes as priorities
 unfoldable pub with_priorities : Interrupts → ℕ → ℕ → ℕ → ℕ → Interrupts
 with_priorities vm core value first zero = vm
 with_priorities vm core value first (suc count) =
     changed (with_priorities vm core value first count) core (first + count)
     (λ state. record state { priority = value / 2 ^ (8 * count) % 256 })
 
--- so many bytes of a number, from one on
+-- this many bytes of a number, from one on
 abbrev pub part : ℕ → ℕ → ℕ → ℕ
 part number first width = number / 2 ^ (8 * first) % 2 ^ (8 * width)
 

@@ -9,7 +9,7 @@ use Rattle.vgic_emul.specs.declared.place.FramePlace.TheVariants.{Dist, Redist, 
 abbrev pub in_core : ℕ → ℕ → FramePlace
 in_core core offset = if nat_lt offset frame_size then Redist core offset else Sgi core (offset - frame_size)
 
--- the frame in which an address lies, for a VM with so many virtual cores, whose distributor and redistributors begin
+-- the frame in which an address lies, for a VM with this many virtual cores, whose distributor and redistributors begin
 -- at these addresses; that the distributor comes first where both overlap is our own choice
 abbrev pub frame_at : ℕ → ℕ → ℕ → ℕ → Option FramePlace
 frame_at gicd gicr cores at =
@@ -17,7 +17,7 @@ frame_at gicd gicr cores at =
     else if nat_le gicr at && nat_lt at (gicr + redistributor_size * cores) then Some (in_core ((at - gicr) / redistributor_size) ((at - gicr) % redistributor_size))
     else None
 
--- the frame is one of a VM with so many virtual cores, and the byte lies in it
+-- the frame is one of a VM with this many virtual cores, and the byte lies in it
 abbrev pub IsPlace : ℕ → FramePlace → Type 0
 IsPlace cores (Dist offset) = offset < frame_size
 IsPlace cores (Redist core offset) = (core < cores) × (offset < frame_size)

@@ -128,7 +128,7 @@ fn core_type(table: &IrqTable, core: u8) -> u64
     number * (1 << 32) + number * (1 << 8) + last
 }
 
-/// So many bytes of a register, from one on.
+/// This many bytes of a register, from one on.
 fn part(register: u64, first: u32, width: u32) -> u64
     requires first { first < 8 }
     requires last { first + width ≤ 8 }

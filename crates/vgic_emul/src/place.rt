@@ -16,7 +16,7 @@ pub enum FramePlace {
     Sgi { core: u8, offset: u32 },
 }
 
-/// The emulated frame in which an address lies, of a VM with so many virtual cores. None comes exactly where the address
+/// The emulated frame in which an address lies, of a VM with this many virtual cores. None comes exactly where the address
 /// is in no frame of the VM, and a core of a place is one of the VM's.
 pub fn frame(gicd: u64, gicr: u64, cores: u8, at: u64) -> Option<FramePlace>
     requires gicd { gicd < address_space_end }

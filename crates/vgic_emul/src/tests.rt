@@ -13,7 +13,7 @@ enum Act {
 
 use Act::{Read, Write};
 
-/// The frames as the rows name them: the redistributor of a core by its number, the distributor, and behind this number
+/// The frames as the rows name them: the redistributor of a core by its number, the distributor, and after this number
 /// the frame of a core's own ids.
 const DIST: u8 = 8;
 

@@ -43,7 +43,7 @@ pub(crate) fn write_flags(
     }
 }
 
-/// The priorities of so many ids from the first on, a byte each.
+/// The priorities of this many ids from the first on, a byte each.
 pub(crate) fn priority_bytes(table: &IrqTable, core: u8, first: u16, count: u16) -> u64
     requires core { core < 8 }
     requires count { count ≤ 4 }
@@ -58,7 +58,7 @@ pub(crate) fn priority_bytes(table: &IrqTable, core: u8, first: u16, count: u16)
     value
 }
 
-/// Gives so many ids from the first on the value's bytes as priorities.
+/// Gives this many ids from the first on the value's bytes as priorities.
 pub(crate) fn write_priorities(table: &mut IrqTable, core: u8, value: u64, first: u16, count: u16)
     requires core { core < 8 }
     requires count { count ≤ 4 }

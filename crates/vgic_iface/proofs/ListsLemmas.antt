@@ -27,7 +27,7 @@ some_is_none x is = subst is_there is tt
 none_is_none : {X Y : Type 0} (x : X) → Some x ≡ None → Y
 none_is_none x is = absurd (some_is_none x is)
 
--- the first element that passes is the one behind those that don't
+-- the first element that passes is the one after those that don't
 pub find-at : {X : Type 0} (p : X → Bool) (xs : List X) (i : ℕ) (x : X) → i < length xs → x ≡ get_or xs i x →
     find p (take i xs) ≡ None → p x ≡ true → find p xs ≡ Some x
 find-at p [] i x within is none on = absurd (omega arith)
@@ -39,7 +39,7 @@ find-at p (y ∷ ys) (suc i) x within is none on = by_test (p y) none (λ rest. 
     by_test true none rest = none_is_none y none
     by_test false none rest = rest none
 
--- the register behind those that don't hold the id is the one that is changed
+-- the register after those that don't hold the id is the one that is changed
 pub with_holder-at : (change : ListRegData → ListRegData) (id : ℕ) (lists : List ListRegData) (i : ℕ) (list : ListRegData) →
     i < length lists → list ≡ get_or lists i list → find (holds id) (take i lists) ≡ None → holds id list ≡ true →
     set lists i (change list) ≡ with_holder change id lists

@@ -186,7 +186,7 @@ static NESTED: [(&str, Call); 11] = [
     ("an id that stands twice: the first counts",   Signal(Some(63))),
     ("a priority of the second isn't seen",         Acknowledge(63)),
     ("it is the first's that runs",                 Running(0x80)),
-    ("the second is behind it",                     Signal(Some(32))),
+    ("the second is after it",                     Signal(Some(32))),
     ("a more urgent one comes on top",              Acknowledge(32)),
     ("and runs",                                    Running(0x18)),
     ("the end takes the least priority",            End(63, true)),

@@ -5,7 +5,7 @@ use Rattle.bao_types.specs.Controller.{id_end}
 use Rattle.vgic_iface.specs.Rank.{rank, no_rank, least}
 use Rattle.vgic_table.specs.declared.id_state.IdState.{IdState}
 
--- `ids` has the ids 0 to 31 of 8 virtual cores, one core after another, and behind them the ids 32 to 95 of the VM
+-- `ids` has the ids 0 to 31 of 8 virtual cores, one core after another, and after them the ids 32 to 95 of the VM
 pub record Interrupts : Type 0 where
   pub on : Bool
   pub cores : ℕ
@@ -15,7 +15,7 @@ pub record Interrupts : Type 0 where
 abbrev pub quiet : IdState
 quiet = record { enabled = false; priority = 0; pending = false; active = false }
 
--- the interrupts of a VM with so many virtual cores at boot
+-- the interrupts of a VM with this many virtual cores at boot
 abbrev pub quiet_interrupts : ℕ → Interrupts
 quiet_interrupts cores = record { on = false; cores = cores; ids = replicate 320 quiet }
 

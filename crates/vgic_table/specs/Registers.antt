@@ -47,7 +47,7 @@ without_best vm core best =
     if nat_lt best no_rank then with_state vm core (id_of best) (record (state_of vm core (id_of best)) { pending = false })
     else vm
 
--- the best ids of the core, so many of them, each in a register
+-- the best ids of the core, this many of them, each in a register
 abbrev pub registers : ℕ → Interrupts → ℕ → List ListRegData
 registers zero vm core = []
 registers (suc count) vm core = register_for (best vm core) ∷ registers count (without_best vm core (best vm core)) core

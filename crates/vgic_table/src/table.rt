@@ -94,7 +94,7 @@ impl IrqTable {
     ghost use Rattle.vgic_table.specs.Shape.{IsShaped};
     ghost use Rattle.vgic_table.specs.Registers.{joined, left_by_registers, put_back, refilled, refilled_table, register_for, registers, without_best};
 
-    /// The table of a VM with so many virtual cores, as it is at boot: the distributor is off, and each id is off,
+    /// The table of a VM with this many virtual cores, as it is at boot: the distributor is off, and each id is off,
     /// inactive and not pending, with priority 0.
     pub fn new(cores: u8) -> Self
         requires { cores ≤ 8 }

@@ -15,7 +15,7 @@ use bao_types::{ByteRange, CorePlace, PortSpot, Shape};
 use bao_wellformed::Checked;
 use hypervisor::{owner, virtual_core};
 
-/// The shape of the board that a configuration asks for, for so many events.
+/// The shape of the board that a configuration asks for, for this many events.
 pub fn shape_for(checked: &Checked, events: u32) -> Shape
     requires { events ≤ event_limit }
     ensures shape { shape_data result ≡ shape_of (checked_data checked.now) events }

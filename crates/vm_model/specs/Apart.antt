@@ -12,7 +12,7 @@ use Rattle.vm_model.specs.Flat.{platform_places}
 use Rattle.vm_model.specs.Lone.{is_core_of, is_in_window}
 use Rattle.vm_model.specs.Agree.{IsInMap}
 
--- The VM at place v is apart from the others: its cores are its alone, and no other lists one of them; where a core of another
+-- The VM at place v is apart from the others: its cores belong to it alone, and no other lists one of them; where a core of another
 -- may store to a byte of its map, the byte is a window of it; no image of another lies over its map; its cores reach no ports but
 -- its own, which no core of another reaches; and no other is given one of its ports.
 pub record IsApart (cfg : ConfigData) (images : List (List ℕ)) (v : ℕ) (vm : VmData) : Type 0 where

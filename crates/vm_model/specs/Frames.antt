@@ -57,7 +57,7 @@ frame_access cfg vm esr far =
     then option_map (described esr) (frame_of cfg vm far)
     else None
 
--- the value that it writes, if it stores: so many bytes of the register
+-- the value that it writes, if it stores: this many bytes of the register
 abbrev pub stored_value : FrameAccess → CoreData → Option ℕ
 stored_value access core = if access.stores then Some (x_of core access.register % 2 ^ (8 * access.width)) else None
 

@@ -34,7 +34,7 @@ abbrev pub is_target : ℕ → ℕ → ℕ → Bool
 is_target own value core =
     if is_to_others value then not (core == own) else is_near value && nat_lt core 16 && field value core core == 1
 
--- the id of one of so many cores, each of which is a target, stands at this place of their VM's table
+-- the id of one of this many cores, each of which is a target, stands at this place of their VM's table
 abbrev pub is_sent_at : ℕ → ℕ → ℕ → ℕ → Bool
 is_sent_at own value zero at = false
 is_sent_at own value (suc core) at = is_target own value core && place core (sent_id value) == at || is_sent_at own value core at
