@@ -1,8 +1,8 @@
 //! Whole documents, and what is told of them.
 
 use crate::edited::edited;
-use crate::samples::{ONE_VM, TWO_VMS};
 use bao_config::{ConfigError, Spot, bounds, is_file_name, is_name, read_config, row};
+use sample_configs::{ONE_VM, TWO_VMS};
 use std::alloc::{AllocError, Global};
 use std::process::Abort;
 use std::test::Fail;

@@ -1,8 +1,8 @@
 //! What a row of a table of broken samples says, and how it is tried.
 
 use crate::edited::edited;
-use crate::samples::TWO_VMS;
 use bao_config::{ConfigError, Spot, read_config};
+use sample_configs::TWO_VMS;
 use std::alloc::{AllocError, Global};
 use std::process::Abort;
 

@@ -220,7 +220,7 @@ static PARKED_OF_TWO: [Guest; 2] = [
 ];
 
 #[test]
-fn parked_behind_two_redistributors(rt: HostRuntime) -> Result<(), Fail> {
+fn parked_after_two_redistributors(rt: HostRuntime) -> Result<(), Fail> {
     check_guests(&rt, rt.alloc(), TWO_CORES, PARKED_OF_TWO.as_slice())
 }
 

@@ -3,9 +3,9 @@
 use crate::runs::{
     FIVE, FOREVER, RUN, check, image_of, sample_shelf, shelf_of, steps, strings, told,
 };
-use crate::samples::ONE_VM;
 use bao_command::play;
 use outside::{MemSink, SureShelf};
+use sample_configs::ONE_VM;
 use std::alloc::Global;
 use std::process::Abort;
 use std::test::Fail;

@@ -3,8 +3,9 @@
 
 use crate::programs::{Program, check_program};
 use crate::runs::{RUN, check, image_of, shelf_of, told};
-use crate::samples::{Change, ONE_VM, changed, two_vms};
+use crate::samples::{Change, changed};
 use crate::several::{SEVEN, told_of};
+use sample_configs::{ONE_VM, TWO_VMS};
 use std::alloc::Global;
 use std::test::Fail;
 
@@ -165,10 +166,9 @@ static SECOND: &str =
     "vm b\ncore 0 on\npc 0000000000140004\npstate 000003c5\nx0 0000000000000007\n";
 
 fn cores_of_two(alloc: Global, words: &[u32]) -> Result<String, Fail> {
-    let config = two_vms(alloc)?;
     let told = told_of(
         alloc,
-        config.as_str(),
+        TWO_VMS,
         [words, &SEVEN],
         "s 0 0\ns 0 0\ns 0 0\ns 0 0\ns 1 0\n",
     )?;

@@ -2,9 +2,8 @@
 
 use crate::refusals::BROKEN;
 use crate::runs::{CHECK, check, shelf_of, told};
-use crate::samples::{
-    BANKS, CORES, Change, DEVS, ONE_VM, REGIONS, SHMEM, WINDOW, changed, two_vms,
-};
+use crate::samples::{BANKS, CORES, Change, DEVS, REGIONS, SHMEM, WINDOW, changed};
+use sample_configs::{ONE_VM, TWO_VMS};
 use std::alloc::Global;
 use std::process::Abort;
 use std::test::Fail;
@@ -144,9 +143,8 @@ fn one_vm(rt: HostRuntime) -> Result<(), Fail> {
 
 #[test]
 fn both_vms(rt: HostRuntime) -> Result<(), Fail> {
-    let sample = two_vms(rt.alloc())?;
     for row in TWO.as_slice() {
-        check_row(&rt, rt.alloc(), sample.as_str(), row)?;
+        check_row(&rt, rt.alloc(), TWO_VMS, row)?;
     }
     Ok(())
 }

@@ -1,9 +1,10 @@
 //! Guests that drive device ports, input bytes, and generated workloads, by the whole program.
 
 use crate::runs::{FOREVER, RUN, check, image_of, shelf_of, steps, told};
-use crate::samples::{Change, DEVS, ONE_VM, REGIONS, changed, two_vms};
+use crate::samples::{Change, DEVS, REGIONS, changed};
 use crate::several::{told_of, told_of_two};
 use outside::MemShelf;
+use sample_configs::{ONE_VM, TWO_VMS};
 use std::alloc::Global;
 use std::process::Abort;
 use std::test::Fail;
@@ -35,7 +36,7 @@ const TWO_SCRATCH: &[Change] = &[
 ];
 
 /// A scratch port right after a region.
-const BEHIND_MEMORY: &[Change] = &[
+const AFTER_MEMORY: &[Change] = &[
     (PORTS, "ports = [{ id = 8, base = 0x200000, spi = 32 }]"),
     ("port = 0, irq", "port = 8, irq"),
     (
@@ -80,9 +81,9 @@ static GUESTS: [Guest; 22] = [
     ("a scratch port keeps a word",              SCRATCH,        &[0xd2b3_8121, 0x5280_00e2, 0xb900_3c22, 0xb940_3c23],                    "s 0 0\ns 0 0\ns 0 0\ns 0 0\n",                      ["x2 0000000000000007\nx3 0000000000000007", ""]),
     ("a ticker counts inputs",                   TICKER,         &[0xd2b3_8121, 0xb940_0022],                                              "i 12 0\ni 12 9\ni 12 0\ns 0 0\ns 0 0\n",            ["x2 0000000000000003", ""]),
     ("a pair over two ports",                    TWO_SCRATCH,    &[0xd2b3_8121, 0x5280_00e2, 0x5280_0123, 0x2907_8c22, 0xb940_3c24, 0xb940_4025], "s 0 0\ns 0 0\ns 0 0\ns 0 0\ns 0 0\ns 0 0\n", ["x4 0000000000000007\nx5 0000000000000009", ""]),
-    ("a pair stored in memory and a port",       BEHIND_MEMORY,  &[0xd29f_ff81, 0xf2a0_03e1, 0x5280_00e4, 0x5280_0125, 0x2900_1424, 0x2940_0c22], "s 0 0\ns 0 0\ns 0 0\ns 0 0\ns 0 0\ns 0 0\n", ["x2 0000000000000007\nx3 0000000000000009", "m 00000000001ffff0 00000000000000000000000007000000"]),
-    ("a wide load from memory into a port",      BEHIND_MEMORY,  &[0xd29f_ff81, 0xf2a0_03e1, 0xf940_0022],                                 "s 0 0\ns 0 0\ns 0 0\n",                             ["esr_el1 0000000096000021\nfar_el1 00000000001ffffc", "x1 00000000001ffffc\nelr_el1 0000000000100008"]),
-    ("a wide store from memory into a port",     BEHIND_MEMORY,  &[0xd29f_ff81, 0xf2a0_03e1, 0xf900_0021],                                 "s 0 0\ns 0 0\ns 0 0\n",                             ["esr_el1 0000000096000061\nfar_el1 00000000001ffffc", "m 0000000000100000 81ff9fd2e103a0f2210000f900000000\nend a"]),
+    ("a pair stored in memory and a port",       AFTER_MEMORY,   &[0xd29f_ff81, 0xf2a0_03e1, 0x5280_00e4, 0x5280_0125, 0x2900_1424, 0x2940_0c22], "s 0 0\ns 0 0\ns 0 0\ns 0 0\ns 0 0\ns 0 0\n", ["x2 0000000000000007\nx3 0000000000000009", "m 00000000001ffff0 00000000000000000000000007000000"]),
+    ("a wide load from memory into a port",      AFTER_MEMORY,   &[0xd29f_ff81, 0xf2a0_03e1, 0xf940_0022],                                 "s 0 0\ns 0 0\ns 0 0\n",                             ["esr_el1 0000000096000021\nfar_el1 00000000001ffffc", "x1 00000000001ffffc\nelr_el1 0000000000100008"]),
+    ("a wide store from memory into a port",     AFTER_MEMORY,   &[0xd29f_ff81, 0xf2a0_03e1, 0xf900_0021],                                 "s 0 0\ns 0 0\ns 0 0\n",                             ["esr_el1 0000000096000061\nfar_el1 00000000001ffffc", "m 0000000000100000 81ff9fd2e103a0f2210000f900000000\nend a"]),
 ];
 
 pub(crate) fn check_guest(rt: &impl Abort, alloc: Global, guest: &Guest) -> Result<(), Fail> {
@@ -150,8 +151,7 @@ fn check_talk(rt: &impl Abort, alloc: Global, schedule: &str) -> Result<(), Fail
     let words = [TALKING[0].as_slice(), TALKING[1].as_slice()];
     let told = told_of_two(alloc, &[], words, schedule)?;
     check(rt, schedule, &told, TALKED);
-    let sharing = two_vms(alloc)?;
-    let told = told_of(alloc, &sharing, words, schedule)?;
+    let told = told_of(alloc, TWO_VMS, words, schedule)?;
     check(rt, "with a window that nobody writes", &told, TALKED);
     Ok(())
 }

@@ -3,8 +3,9 @@
 use crate::programs::PLACE_AND_NUMBER;
 use crate::runs::{FIVE, RUN, check, image_of, shelf_of, steps, told};
 use crate::samples::{
-    BANKS, CORES, Change, DEVS, HYPERVISOR, ONE_VM, OWN_CORES, REGIONS, SHMEM, WINDOW, changed,
+    BANKS, CORES, Change, DEVS, HYPERVISOR, OWN_CORES, REGIONS, SHMEM, WINDOW, changed,
 };
+use sample_configs::ONE_VM;
 use std::alloc::Global;
 use std::process::Abort;
 use std::test::Fail;
@@ -124,7 +125,7 @@ fn machines(rt: HostRuntime) -> Result<(), Fail> {
 const GUARD: &str =
     "devs = [{ port = 0, irq = 40 }]\nguards = [{ base = 0x108000, size = 0x40 }]\n";
 
-const GUARD_BEHIND: &str =
+const GUARD_AFTER: &str =
     "devs = [{ port = 0, irq = 40 }]\nguards = [{ base = 0x108040, size = 0x40 }]\n";
 
 /// The store was taken.
@@ -190,7 +191,7 @@ static STORES: [Row; 8] = [
         &[(REGIONS, "regions = [{ base = 0x100000, size = 0x8000, access = \"rwx\" }, { base = 0x108000, size = 0x1000, access = \"rx\" }]\n")],
         ONLY_READ),
     ("a guard", &[(DEVS, GUARD)], NO_MEMORY),
-    ("a guard after", &[(DEVS, GUARD_BEHIND)], STORED),
+    ("a guard after", &[(DEVS, GUARD_AFTER)], STORED),
     ("no window on shared memory",
         &[SHMEM, ("base = 0x180000", "base = 0x108000"), ("size = 0x10000, access", "size = 0x8000, access")],
         NO_MEMORY),

@@ -204,13 +204,13 @@ fn check_access(
     rt: &impl Abort,
     alloc: Global,
     before: &[u32],
-    behind: &[u32],
+    after: &[u32],
     row: &Access,
 ) -> Result<(), Fail> {
     let (shows, word, words, lines) = *row;
     let mut first = before.to_vec(alloc)?;
     first.push(word)?;
-    first.extend_from_slice(behind)?;
+    first.extend_from_slice(after)?;
     check_program(
         rt,
         alloc,
@@ -230,10 +230,10 @@ fn regions_at_el1(rt: HostRuntime) -> Result<(), Fail> {
 #[test]
 fn regions_at_el0(rt: HostRuntime) -> Result<(), Fail> {
     let alloc = rt.alloc();
-    let mut behind = REGION.to_vec(alloc)?;
-    behind.extend_from_slice(&TO_EL0)?;
+    let mut after = REGION.to_vec(alloc)?;
+    after.extend_from_slice(&TO_EL0)?;
     for row in AT_EL0.as_slice() {
-        check_access(&rt, alloc, &[], &behind, row)?;
+        check_access(&rt, alloc, &[], &after, row)?;
     }
     Ok(())
 }

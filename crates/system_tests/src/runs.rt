@@ -1,8 +1,8 @@
 //! Runs of the whole program over the simulated board, each told as one text.
 
-use crate::samples::ONE_VM;
 use bao_command::{Outcome, play};
 use outside::{MemShelf, MemSink};
+use sample_configs::ONE_VM;
 use std::alloc::Global;
 use std::process::Abort;
 use std::test::Fail;

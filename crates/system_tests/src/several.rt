@@ -1,8 +1,9 @@
 //! Runs of several VMs: each shows what it shows alone, in every order of their steps.
 
 use crate::runs::{FIVE, RUN, check, image_of, shelf_of_two, told};
-use crate::samples::{Change, NOTHING_SHARED, changed, two_vms};
+use crate::samples::{Change, NOTHING_SHARED, changed};
 use outside::MemShelf;
+use sample_configs::TWO_VMS;
 use std::alloc::Global;
 use std::process::Abort;
 use std::test::Fail;
@@ -21,7 +22,7 @@ const FILLING: [u32; 5] = [
 
 /// The sample of two VMs that share nothing, with these changes.
 fn separate(alloc: Global, changes: &[Change]) -> Result<String, Fail> {
-    let both = changed(alloc, two_vms(alloc)?.as_str(), NOTHING_SHARED.as_slice())?;
+    let both = changed(alloc, TWO_VMS, NOTHING_SHARED.as_slice())?;
     changed(alloc, both.as_str(), changes)
 }
 
@@ -174,7 +175,7 @@ static STORING: [u32; 7] = [
 ];
 
 /// Memory of the first VM after its window.
-const BEHIND: Change = (
+const AFTER: Change = (
     "regions = [{ base = 0x100000, size = 0x10000, access = \"rwx\" }]\n",
     "regions = [{ base = 0x100000, size = 0x10000, access = \"rwx\" }, { base = 0x181000, size = 0x1000, access = \"rw\" }]\n",
 );
@@ -224,7 +225,7 @@ end a
 #[rattlefmt::skip]
 static WINDOWS: [(&str, &[Change], u32, u8, &str, &str); 3] = [
     // shows                          changes               steps status
-    ("the other sees its window",    &[BEHIND],             7,    0,      STORED,
+    ("the other sees its window",    &[AFTER],              7,    0,      STORED,
         "vm b
 core 0 on
 pc 0000000000140000
@@ -235,7 +236,7 @@ m 0000000000180ff0 00000000000000000000000088776655
 end b
 done
 "),
-    ("a guard hides the end of it",  &[BEHIND, GUARD],      7,    0,      STORED,
+    ("a guard hides the end of it",  &[AFTER, GUARD],       7,    0,      STORED,
         "vm b
 core 0 on
 pc 0000000000140000
@@ -245,7 +246,7 @@ m 0000000000140000 e00080d2000000140000000000000000
 end b
 done
 "),
-    ("a window that is only read",   &[BEHIND, READ_ONLY],  7,    0,      PARKED,
+    ("a window that is only read",   &[AFTER, READ_ONLY],   7,    0,      PARKED,
         "vm b
 core 0 on
 pc 0000000000140000
@@ -260,10 +261,9 @@ done
 #[test]
 fn windows(rt: HostRuntime) -> Result<(), Fail> {
     let alloc = rt.alloc();
-    let sample = two_vms(alloc)?;
     let schedule = "s 0 0\ns 0 0\ns 0 0\ns 0 0\ns 0 0\ns 0 0\ns 0 0\n";
     for (shows, changes, steps, status, first, second) in WINDOWS.as_slice() {
-        let config = changed(alloc, sample.as_str(), changes)?;
+        let config = changed(alloc, TWO_VMS, changes)?;
         let told = told_of(alloc, &config, [&STORING, &SEVEN], schedule)?;
         let wanted = format!(in alloc;
             "status {status} entered {steps} calls 4 faults 0\n{first}{second}"

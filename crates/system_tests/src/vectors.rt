@@ -41,7 +41,7 @@ static BEFORE: [u32; 3] = [0x1000_3FC2, 0xD518_C002, 0xD518_4000];
 const TO_THE_WORD: u32 = 0x1000_0061;
 
 /// The same, two bytes after it.
-const BEHIND_THE_WORD: u32 = 0x5000_0061;
+const AFTER_THE_WORD: u32 = 0x5000_0061;
 
 /// `msr elr_el1, x1` and `eret`; the next word is at 0x100020.
 static RETURN: [u32; 2] = [0xD518_4021, 0xD69F_03E0];
@@ -73,8 +73,8 @@ static CAUSES: [Cause; 7] = [
     ("svc #5",                   LEGAL,   0x6000_0000, TO_THE_WORD,     0xD400_00A1, [0x10_0024, 0x5600_0005, 0]),
     ("brk #1",                   LEGAL,   0x6000_0000, TO_THE_WORD,     0xD420_0020, [0x10_0020, 0xF200_0001, 0]),
     ("svc in an illegal state",  ILLEGAL, 0x6010_0000, TO_THE_WORD,     0xD400_00A1, [0x10_0020, 0x3A00_0000, 0]),
-    ("a misaligned pc",          LEGAL,   0x6000_0000, BEHIND_THE_WORD, 0xD503_201F, [0x10_0022, 0x8A00_0000, 0x10_0022]),
-    ("both of these",            ILLEGAL, 0x6010_0000, BEHIND_THE_WORD, 0xD503_201F, [0x10_0022, 0x8A00_0000, 0x10_0022]),
+    ("a misaligned pc",          LEGAL,   0x6000_0000, AFTER_THE_WORD, 0xD503_201F, [0x10_0022, 0x8A00_0000, 0x10_0022]),
+    ("both of these",            ILLEGAL, 0x6010_0000, AFTER_THE_WORD, 0xD503_201F, [0x10_0022, 0x8A00_0000, 0x10_0022]),
 ];
 
 /// What EL1 alone may execute; undefined at EL0.
