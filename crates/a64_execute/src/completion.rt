@@ -1,6 +1,5 @@
 ghost use Rattle.std.specs.Prelude.{◌≡◌, IsTrue, Some};
 ghost use Rattle.a64_decode.specs.Lawful.{IsLawful};
-ghost use Rattle.a64_address.specs.Shape.{memory_shape};
 ghost use Rattle.a64_execute.specs.Want.{wanted, access_asked, is_of_core_alone};
 ghost use Rattle.a64_execute.specs.Finish.{finished};
 
@@ -30,14 +29,13 @@ pub fn complete(core: &mut Core, moment: Moment, instr: &Instr)
 /// carried it out: writes its registers, and the base back, and goes on to the next instruction.
 ///
 /// `got` is what was loaded: the bytes of the access in address order as one little-endian number, for a pair the second
-/// element from bit 8 times the width on. It means nothing where nothing was loaded.
+/// element from bit 8 times the width on. It means nothing where nothing was loaded. The moment makes no difference to it.
 #[inline(always)]
-pub fn complete_access(core: &mut Core, moment: Moment, instr: &Instr, shape: &MemShape, got: u128)
+pub fn complete_access(core: &mut Core, instr: &Instr, shape: &MemShape, got: u128)
     requires lawful { IsLawful instr.now }
     requires need { access_asked (wanted core.old instr.now) ≡ Some shape.now }
-    ensures { core.new ≡ finished core.old moment instr.now got }
+    ensures { (moment : Moment) → core.new ≡ finished core.old moment instr.now got }
 {
-    let _ = moment;
     transfer(core, instr, shape, got);
     advance(core);
 }

@@ -355,7 +355,7 @@ fn load_agrees(rt: &impl Abort, pc: u64, row: &Access) {
     let Need::Load { shape } = want(&core, &instr) else {
         panic!(rt; "{shows}");
     };
-    complete_access(&mut core, NOW, &instr, &shape, loaded);
+    complete_access(&mut core, &instr, &shape, loaded);
     let seen = (
         shape.at,
         shape.width,
@@ -378,7 +378,7 @@ fn store_agrees(rt: &impl Abort, pc: u64, row: &Access) {
     let Need::Store { shape, value } = want(&core, &instr) else {
         panic!(rt; "{shows}");
     };
-    complete_access(&mut core, NOW, &instr, &shape, HIGH);
+    complete_access(&mut core, &instr, &shape, HIGH);
     let seen = (shape.at, shape.width, shape.count, value, core == expected);
     assert_eq!(rt; seen, (at, width, count, stored, true), "{shows}");
 }

@@ -514,12 +514,6 @@ fn finish_access(core: &mut Core, request: &Request<'_>, got: u128) -> Exit
     ensures core { core.new ≡ finished core.old request.now.fetched.now.moment request.now.fetched.now.instr got }
     ensures exit { result ≡ Exit.Ran }
 {
-    complete_access(
-        core,
-        request.fetched.moment,
-        &request.fetched.instr,
-        request.shape,
-        got,
-    );
+    complete_access(core, &request.fetched.instr, request.shape, got);
     Exit::Ran
 }
