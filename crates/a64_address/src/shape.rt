@@ -1,8 +1,7 @@
 ghost use Rattle.std.specs.Prelude.{◌≡◌, ◌^◌, ◌&&◌, ◌==◌, ◌↔◌, if◌then◌else◌, true, false, IsTrue, IsSome, IfSome, is_none, not};
 ghost use Rattle.bao_types.specs.Bytes.{IsWidth};
-ghost use Rattle.a64_state.specs.Registers.{x_of, x_or_sp, is_sp};
+ghost use Rattle.a64_state.specs.Registers.{x_or_sp, is_sp};
 ghost use Rattle.a64_decode.specs.Lawful.{IsLawful, IsReg, is_prefetch as prefetches, writes_back};
-ghost use Rattle.a64_decode.specs.Operands.{extended as extended_as};
 ghost use Rattle.a64_decode.specs.Access.{scale_of, pair_size, literal_size, is_literal_prefetch, is_store, access_of};
 ghost use Rattle.a64_address.specs.Address.{plus, shifted_left, address_of, back_of};
 ghost use Rattle.a64_address.specs.Shape.{IsCount, memory_shape, ShapesAgree};

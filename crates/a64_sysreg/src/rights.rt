@@ -2,7 +2,7 @@
 
 ghost use Rattle.std.specs.Prelude.{◌≡◌};
 ghost use Rattle.a64_state.specs.Mode.{number_of};
-ghost use Rattle.a64_sysreg.specs.Row.{allows_read, allows_write, at_el1, with_own_sp, read_at_el0};
+ghost use Rattle.a64_sysreg.specs.Row.{allows_read, allows_write, at_el1};
 ghost use Rattle.a64_sysreg.specs.Table.{row};
 
 use crate::Register;

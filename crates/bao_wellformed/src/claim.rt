@@ -4,7 +4,7 @@ ghost use Rattle.bao_config.specs.Config.{config_data};
 ghost use Rattle.bao_config.specs.Data.{vm_data};
 ghost use Rattle.bao_wellformed.specs.declared.claim.Claim.{Claim};
 ghost use Rattle.bao_wellformed.specs.Break.{first, indexed};
-ghost use Rattle.bao_wellformed.specs.Claims.{claims, claims_of_vm, numbers_of};
+ghost use Rattle.bao_wellformed.specs.Claims.{claims, numbers_of};
 ghost use Rattle.bao_wellformed.specs.Rules.{rule_11, rule_15, rule_17, rule_19};
 
 use crate::Ill;

@@ -1,5 +1,5 @@
-ghost use Rattle.std.specs.Prelude.{◌≡◌, ◌≤◌, ◌+◌, ◌^◌, ◌<◌, All, length, map};
-ghost use Rattle.bao_types.specs.ByteRange.{address_space_end, end};
+ghost use Rattle.std.specs.Prelude.{◌≡◌, ◌≤◌, ◌+◌, ◌<◌, All, length, map};
+ghost use Rattle.bao_types.specs.ByteRange.{end};
 ghost use Rattle.bao_types.specs.Region.{granule};
 ghost use Rattle.mpu_packer.specs.Packing.{entry_of};
 ghost use Rattle.region_list.specs.Layers.{AreInSpace, IsInSpace};

@@ -1,8 +1,6 @@
 //! The runs of a core.
-ghost use Rattle.std.specs.Prelude.{◌≡◌, ◌≤◌, ◌<◌, ℕ, All, IfOk, OnOk, length};
-ghost use Rattle.std.specs.List.{list_any};
+ghost use Rattle.std.specs.Prelude.{◌≡◌, ◌≤◌, ◌<◌, ℕ, All, IfOk, OnOk};
 ghost use Rattle.bao_types.specs.ByteRange.{address_space_end, end};
-ghost use Rattle.bao_config.specs.Data.{vm_data};
 ghost use Rattle.bao_wellformed.specs.Checked.{checked_data};
 ghost use Rattle.bao_wellformed.specs.ByteRules.{kind_in};
 ghost use Rattle.bao_wellformed.specs.Map.{class_of, grant, guest_class, has_core, owner};

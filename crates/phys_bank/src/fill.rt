@@ -1,9 +1,9 @@
 //! The pages that the used ranges ask for.
-ghost use Rattle.std.specs.Prelude.{◌≡◌, ℕ, ◌+◌, ◌<◌, ◌≤◌, ◌≢◌, ◌⊎◌, true, None, Some, length, slice_get, IfOk};
+ghost use Rattle.std.specs.Prelude.{◌≡◌, ℕ, ◌+◌, ◌<◌, ◌≤◌, ◌≢◌, true, None, Some, length, slice_get, IfOk};
 ghost use Rattle.phys_bank.specs.Directory.{page_at, is_page};
 ghost use Rattle.phys_bank.specs.Filled.{HasZeroPages, IsFilled, IsEmptyFrom};
 ghost use Rattle.phys_bank.specs.Places.{AreLaid, page_count, total_pages};
-ghost use Rattle.phys_bank.specs.Pages.{page_number, is_in_use};
+ghost use Rattle.phys_bank.specs.Pages.{is_in_use};
 
 use crate::bank_place::BankPlace;
 use crate::directory::Directory;
